@@ -1,5 +1,5 @@
 -- The decisions that a valid history shows agree, and were proposed, by the rules of its setup.
-use Rattle.std.proofs.Common.{◌≡◌, ℕ, List, IfOk, Result, Ok, Err, Some, IsTrue, is_some, unwrap_or, refl, sym, ap, subst}
+use Rattle.std.proofs.Common.{◌≡◌, ℕ, List, IfOk, Result, Ok, Err, Some, IsTrue, refl, sym, subst}
 use Rattle.cdb_alpha.specs.LocalState.{LocalState as AlphaState}
 use Rattle.cdb_alpha.specs.Machine.{alpha_table}
 use Rattle.cdb_alpha.specs.Values.{HoldsValue as AlphaHolds}
@@ -15,32 +15,22 @@ use Rattle.cdb_setup.specs.declared.setup.Algorithm.TheVariants.{Leader, Alpha}
 use Rattle.cdb_rules.specs.Agreement.{AllAgree, AreProposed, HasMajorityIfNeeded}
 use Rattle.cdb_agreement.specs.Algorithms.{leader_machine, alpha_machine, rules, rules_by}
 use Rattle.cdb_rules.specs.Decisions.{decisions_of}
-use Rattle.cdb_rules.specs.State.{Machine, RunState, start}
-use Rattle.cdb_rules.specs.Step.{fold, state_of}
+use Rattle.cdb_rules.specs.State.{RunState}
+use Rattle.cdb_rules.specs.Step.{fold}
 use Rattle.cdb_agreement.proofs.AlphaHistories.{alpha_agrees}
 use Rattle.cdb_agreement.proofs.LeaderHistories.{leader_agrees}
 use Rattle.cdb_agreement.proofs.Proposed.{all_proposed}
-use Rattle.cdb_rules.proofs.Taken.{some_of}
-
--- what holds of each state that the history reaches holds of the state of a valid history
-of_state : {L : Type 0} (machine : Machine L) (Holds : RunState L → Type 0) (history : List Event)
-    → ((state : RunState L) → fold machine history ≡ Some state → Holds state)
-    → IsTrue (is_some (fold machine history)) → Holds (state_of machine history)
-of_state machine Holds history each valid =
-    let reached = some_of _ valid in
-    subst Holds (sym (ap (λ o. unwrap_or o (start machine)) reached.1)) (each reached.0 reached.1)
+use Rattle.cdb_rules.proofs.Histories.{reached_state}
+use Rattle.cdb_agreement.proofs.Lawful.{of_every}
 
 pub agreed : (setup : Parts) → AreInRange setup → HasMajorityIfNeeded setup → (history : List Event)
     → IsTrue ((rules setup).valid history) → AllAgree ((rules setup).decisions history)
-agreed setup ranges majority history valid = by_algorithm setup.algorithm refl valid
+agreed setup ranges majority history = by_algorithm setup.algorithm refl
   where
     by_algorithm : (algorithm : Algorithm) → setup.algorithm ≡ algorithm → IsTrue ((rules_by algorithm setup).valid history)
         → AllAgree ((rules_by algorithm setup).decisions history)
-    by_algorithm Leader is valid =
-        of_state (leader_machine setup) (λ state. AllAgree (decisions_of (λ (local : LeaderState). local.decision) state)) history
-        (leader_agrees setup ranges (majority is) history) valid
-    by_algorithm Alpha is valid =
-        of_state (alpha_machine setup) _ history (alpha_agrees setup ranges history) valid
+    by_algorithm Leader is valid = leader_agrees setup ranges (majority is) history _ (reached_state (leader_machine setup) history valid)
+    by_algorithm Alpha is valid = alpha_agrees setup ranges history _ (reached_state (alpha_machine setup) history valid)
 
 -- ---- what is decided was proposed
 
@@ -54,15 +44,10 @@ alpha_proposes setup ranges = all_proposed alpha_table AlphaHolds alpha.no_value
 
 pub proposed : (setup : Parts) → AreInRange setup → (history : List Event) → IsTrue ((rules setup).valid history)
     → AreProposed setup ((rules setup).decisions history)
-proposed setup ranges history valid = by_algorithm setup.algorithm valid
-  where
-    by_algorithm : (algorithm : Algorithm) → IsTrue ((rules_by algorithm setup).valid history)
-        → AreProposed setup ((rules_by algorithm setup).decisions history)
-    by_algorithm Leader valid =
-        of_state (leader_machine setup) (λ state. AreProposed setup (decisions_of (λ (local : LeaderState). local.decision)
-        state)) history (leader_proposes setup ranges history) valid
-    by_algorithm Alpha valid =
-        of_state (alpha_machine setup) _ history (alpha_proposes setup ranges history) valid
+proposed setup ranges history =
+    of_every (λ rules. IsTrue (rules.valid history) → AreProposed setup (rules.decisions history)) setup
+    (λ valid. leader_proposes setup ranges history _ (reached_state (leader_machine setup) history valid))
+    (λ valid. alpha_proposes setup ranges history _ (reached_state (alpha_machine setup) history valid))
 
 -- ---- what is answered, where it is the decisions that are shown
 

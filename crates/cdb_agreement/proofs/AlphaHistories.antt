@@ -1,370 +1,312 @@
--- The states that valid histories of the Alpha machine reach, seen as runs of its steps with traces.
+-- The states that valid histories of the Alpha machine reach, seen as runs of its steps with traces; agreement, and the laws of their rounds.
 use Rattle.std.proofs.lemmas.Grind.{common_steps}
 use Rattle.std.proofs.lemmas.Option.{gets}
-use Rattle.std.proofs.Common.{◌≡◌, ℕ, zero, suc, ◌≤◌, ◌==◌, true, List, [], length, Option, Some, None, is_some, option_map, slice_index}
-use Rattle.std.proofs.Common.{if◌then◌else◌, ◌⊎◌, inl, inr, refl, sym, ap, subst, ◌∙◌, arith, true≢false, eq-eqb}
-use Rattle.std.specs.FinSet as set
-use Rattle.std.proofs.lemmas.Bool.{cases_eq}
+use Rattle.std.proofs.Common.{◌≡◌, ℕ, zero, suc, ◌≤◌, ◌==◌, true, List, length, Option, Some, None, slice_index}
+use Rattle.std.proofs.Common.{if◌then◌else◌, inl, inr, refl, sym, ap, subst, ◌∙◌, arith, eq-eqb}
 use Rattle.std.proofs.lemmas.Option.{none-some, same_Some}
-use Rattle.cdb_base.specs.Positions.{nth, update_nth}
+use Rattle.cdb_base.specs.Positions.{nth}
 use Rattle.cdb_base.specs.declared.event.Event.{Event}
 use Rattle.cdb_base.specs.declared.event.Event.TheVariants as happening
 use Rattle.cdb_base.specs.declared.event.Kind.{Kind}
 use Rattle.cdb_base.specs.declared.event.Kind.TheVariants.{Write}
 use Rattle.cdb_base.specs.declared.register.Cell.{Cell}
-use Rattle.cdb_base.specs.declared.register.Reg.{Reg}
 use Rattle.cdb_base.specs.declared.register.Reg.TheVariants.{R, Dec}
 use Rattle.cdb_process.specs.declared.Input.{Input}
 use Rattle.cdb_process.specs.declared.Input.TheVariants as input
 use Rattle.cdb_process.specs.Wishes.{wished_cell}
-use Rattle.cdb_register.specs.Registers.{RegisterStates, register_of, put_cell}
+use Rattle.cdb_register.specs.Registers.{RegisterStates}
 use Rattle.cdb_register.specs.declared.RegisterState.{RegisterState}
 use Rattle.cdb_alpha.specs.LocalState.{LocalState, first_state}
 use Rattle.cdb_alpha.specs.Place.{place_number}
 use Rattle.cdb_alpha.specs.Table as table
-use Rattle.cdb_alpha.specs.Steps.{Traced, Step, stay, traced_of, decided, ReadsRegisters, TableStep}
+use Rattle.cdb_alpha.specs.Steps.{Traced, Step, stay, traced_of, decided, ReadsRegisters, LeavesRegisters}
 use Rattle.cdb_alpha.proofs.Promised.{each_input_is_a_step}
-use Rattle.cdb_setup.specs.Parts.{Parts, AreInRange}
+use Rattle.cdb_setup.specs.Parts.{Parts, AreInRange, IsWithin}
 use Rattle.cdb_rules.specs.Agreement.{AllAgree}
-use Rattle.cdb_agreement.specs.Algorithms.{alpha_machine}
 use Rattle.cdb_rules.specs.Decisions.{decisions_of}
+use Rattle.cdb_rules.specs.InputsTaken.{taken_local, input_of, registers_after}
 use Rattle.cdb_rules.specs.State.{ProcessState, RunState, start, fresh_process}
 use Rattle.cdb_rules.specs.Step.{after, fold}
-use Rattle.cdb_rules.specs.InputsTaken.{taken_local, input_of, registers_after}
-use Rattle.cdb_rules.proofs.Stages.{sight_in, meets, process_after, state_after}
-use Rattle.cdb_agreement.proofs.AlphaRuns.{Run, first_run, own_of, RunStep, RunLaws, first_run_laws, cells_rise, run_step_keeps, laws_agree}
 use Rattle.cdb_rules.proofs.Bounds.{length-set_nth}
-use Rattle.cdb_agreement.proofs.Decided.{HasDecided, agreeing}
+use Rattle.cdb_rules.proofs.Commutes.{lost_from}
+use Rattle.cdb_rules.proofs.Stages.{sight_in, meets}
+use Rattle.cdb_rules.proofs.Taken.{IsTaken, IsAccepted, taken_from, parts}
+use Rattle.cdb_agreement.specs.Algorithms.{alpha_machine}
+use Rattle.cdb_agreement.specs.Rounds.{IsProcess, IsRegister, AlphaRounds}
+use Rattle.cdb_agreement.proofs.AlphaRuns.{Run, first_run, own_of, Settled, RunStep, RunLaws, first_run_laws, cells_rise, run_step_keeps}
+use Rattle.cdb_agreement.proofs.AlphaRuns.{settled_follows, one_settled}
+use Rattle.cdb_agreement.proofs.AlphaSteps.{TracedLaws}
+use Rattle.cdb_agreement.proofs.Decided.{agreeing}
 use Rattle.cdb_agreement.proofs.Firsts.{length-firsts, first_at, first_cells, first_decision}
-use Rattle.cdb_agreement.proofs.Inputs.{Brings, brings, each_place}
-use Rattle.cdb_rules.proofs.FoldKeeps.{reached_keeps}
-use Rattle.cdb_rules.proofs.Positions.{nth-update_nth_same, nth-update_nth_other, nth_within}
-use Rattle.cdb_rules.proofs.Taken.{mapped, taken_from, parts, where_true}
+use Rattle.cdb_agreement.proofs.Inputs.{Brings, brings, shown_from}
+use Rattle.cdb_agreement.proofs.Reached.{IsKept, nth_among, reached, each_after}
+
+-- process p of n stands as the run has it
+pub record IsTraced (n : ℕ) (run : Run) (p : ℕ) (x : ProcessState LocalState) : Type 0 where
+  pub me : x.progress.local.me ≡ p
+  pub among : x.progress.local.processes ≡ n
+  pub tied : run.traced p ≡ traced_of x.progress.local (run.traced p).own_writes (run.traced p).carried
 
 -- what every state of a valid history keeps to, of n processes: there is a run with traces that fits it
 pub record Lawful (n : ℕ) (t : RunState LocalState) : Type 0 where
   pub run : Run
   pub laws : RunLaws n run
   pub size : length t.processes ≡ n
-  pub me : (p : ℕ) (x : ProcessState LocalState) → nth t.processes p ≡ Some x → x.progress.local.me ≡ p
-  pub among : (p : ℕ) (x : ProcessState LocalState) → nth t.processes p ≡ Some x → x.progress.local.processes ≡ n
-  pub tied : (p : ℕ) (x : ProcessState LocalState) → nth t.processes p ≡ Some x
-      → run.traced p ≡ traced_of x.progress.local (run.traced p).own_writes (run.traced p).carried
-  pub holds : (p : ℕ) (r : RegisterState) → nth t.registers.of_processes p ≡ Some r → r.cell ≡ (run.traced p).own
+  pub traced : (p : ℕ) (x : ProcessState LocalState) → IsProcess t p x → IsTraced n run p x
+  pub holds : (p : ℕ) (r : RegisterState) → IsRegister t p r → r.cell ≡ (run.traced p).own
   pub dec : (r : RegisterState) → t.registers.of_decision ≡ Some r → r.cell ≡ decided run.dec
-
-pub nth_low : {A : Type 0} (xs : List A) (i : ℕ) (x : A) → nth xs i ≡ Some x → 1 ≤ i
-nth_low xs i x is = grind (arith, common_steps, gets)
 
 -- ---- the start
 
-abbrev input_at : List ℕ → ℕ → ℕ
-input_at inputs zero = 0
-input_at inputs (suc k) = slice_index inputs k
-
 module _ (setup : Parts) where
-  abbrev cells : ℕ
-  cells = if (alpha_machine setup).has_registers then length (alpha_machine setup).firsts else 0
+  abbrev input_at : ℕ → ℕ
+  input_at zero = 0
+  input_at (suc k) = slice_index setup.inputs k
 
-  first_process : (p : ℕ) (x : ProcessState LocalState) → nth (start (alpha_machine setup)).processes p ≡ Some x
-      → x ≡ fresh_process (first_state p setup.processes (input_at setup.inputs p))
+  first_process : (p : ℕ) (x : ProcessState LocalState) → IsProcess (start (alpha_machine setup)) p x
+      → x ≡ fresh_process (first_state p setup.processes (input_at p))
   first_process zero x is = absurd (none-some x is)
   first_process (suc k) x is = first_at _ _ _ _ k x is
 
-  pub start_lawful : length setup.inputs ≡ setup.processes → Lawful setup.processes (start (alpha_machine setup))
+  start_lawful : length setup.inputs ≡ setup.processes → Lawful setup.processes (start (alpha_machine setup))
   start_lawful each = record {
-    run = first_run (input_at setup.inputs);
+    run = first_run input_at;
     laws = first_run_laws _ _;
     size = length-firsts _ _ _ _ ∙ each;
-    me = λ p x is. ap (λ (y : ProcessState LocalState). y.progress.local.me) (first_process p x is);
-    among = λ p x is. ap (λ (y : ProcessState LocalState). y.progress.local.processes) (first_process p x is);
-    tied = λ p x is. sym (ap (λ (y : ProcessState LocalState). traced_of y.progress.local [] []) (first_process p x is));
-    holds = λ p r is. ap (λ (y : RegisterState). y.cell) (first_cells cells p r is);
-    dec = λ r is. ap (λ (y : RegisterState). y.cell) (first_decision cells r is);
+    traced = λ p x is. rw (first_process p x is) (record { me = refl; among = refl; tied = refl });
+    holds = λ p r is. ap (λ (y : RegisterState). y.cell) (first_cells _ p r is);
+    dec = λ r is. ap (λ (y : RegisterState). y.cell) (first_decision _ r is);
   }
 
--- ---- an event
+-- ---- a process of a lawful state
 
--- a run in which process p has another state
-abbrev put : (ℕ → Traced) → ℕ → Traced → ℕ → Traced
-put traced p k s = if s == p then k else traced s
+module _ (n : ℕ) (t : RunState LocalState) (lawful : Lawful n t) where
+  abbrev run : Run
+  run = lawful.run
 
-put_same : (traced : ℕ → Traced) (p : ℕ) (k : Traced) → put traced p k p ≡ k
-put_same traced p k = ap (λ b. if b then k else traced p) (eq-eqb p p refl)
+  module _ (p : ℕ) (x : ProcessState LocalState) (at : IsProcess t p x) where
+    pub of_n : IsWithin 1 n p
+    of_n = rw (← lawful.size) (nth_among t.processes p x at)
 
-put_other : (traced : ℕ → Traced) (p : ℕ) (k : Traced) (s : ℕ) → (s ≡ p → ⊥) → put traced p k s ≡ traced s
-put_other traced p k s other = grind (arith, common_steps, gets)
+    -- what holds of its local state with its trace
+    pub its_laws : TracedLaws n p (traced_of x.progress.local (run.traced p).own_writes (run.traced p).carried)
+    its_laws = subst (TracedLaws n p) (lawful.traced p x at).tied (lawful.laws.each p of_n.0)
 
--- a step of the process x to the local state s, with its trace
-pub record Went (n : ℕ) (run : Run) (x : ProcessState LocalState) (s : LocalState) : Type 0 where
-  pub own_writes_after : List (ℕ × ℕ)
-  pub carried_after : List ℕ
-  pub published : Option ℕ
-  pub step : Step n (own_of run) run.dec (run.traced x.progress.local.me) (traced_of s own_writes_after carried_after) published
-  pub same_me : s.me ≡ x.progress.local.me
-  pub same_processes : s.processes ≡ x.progress.local.processes
+    own_is : (run.traced p).own ≡ x.progress.local.own
+    own_is = ap (λ (y : Traced). y.own) (lawful.traced p x at).tied
 
--- and what the registers hold after it
-pub record Kinded (n : ℕ) (run : Run) (x : ProcessState LocalState) (s : LocalState) (left : RegisterStates) : Type 0 where
-  pub went : Went n run x s
-  pub own_cell : (r : RegisterState) → nth left.of_processes x.progress.local.me ≡ Some r → r.cell ≡ s.own
-  pub other_cells : (p : ℕ) (r : RegisterState) → (p ≡ x.progress.local.me → ⊥) → nth left.of_processes p ≡ Some r → r.cell ≡ (run.traced p).own
-  pub dec : (r : RegisterState) → left.of_decision ≡ Some r → r.cell ≡ decided went.published
+    pub has_settled : (v : ℕ) → x.progress.local.decision ≡ Some v → Settled n run v
+    has_settled v is = lawful.laws.decision_settled p of_n.0 v (ap (λ (y : Traced). y.decision) (lawful.traced p x at).tied ∙ is)
 
-module _ (n : ℕ) (setup : Parts) (t : RunState LocalState) (lawful : Lawful n t) where
-  -- process x stands at its place
-  module _ (x : ProcessState LocalState) (at : nth t.processes x.progress.local.me ≡ Some x) (s : LocalState) where
-    abbrev local : LocalState
-    local = x.progress.local
+-- ---- a step
 
-    abbrev mine : Traced
-    mine = lawful.run.traced local.me
+module _ (setup : Parts) (n : ℕ) (t to : RunState LocalState) (p k : ℕ) (kind : Kind) (taken : IsTaken (alpha_machine setup) t p k kind to)
+    (lawful : Lawful n t) where
+  abbrev local : LocalState
+  local = taken.process.progress.local
 
-    abbrev IsTaken : Input → Type 0
-    IsTaken i = TableStep (own_of lawful.run) lawful.run.dec local s mine.own_writes mine.carried i
+  abbrev next : LocalState
+  next = taken.next
 
-    abbrev Leaving : RegisterStates → Type 0
-    Leaving left = Kinded n lawful.run x s left
+  abbrev mine : Traced
+  mine = lawful.run.traced p
 
-    tied_here : mine ≡ traced_of local mine.own_writes mine.carried
-    tied_here = lawful.tied local.me x at
+  accepted : IsAccepted (alpha_machine setup) taken.process k kind (sight_in t p kind) next
+  accepted = parts (alpha_machine setup) t to p k kind taken
 
-    passed : place_number local.place ≡ 4 → 1 ≤ length local.seen
-    passed here =
-        let low = nth_low t.processes local.me x at in
-        let high = nth_within t.processes local.me x at in
-        let size = lawful.size in
-        let place : mine.place ≡ place_number local.place = ap (λ (y : Traced). y.place) tied_here in
-        let seen : length mine.seen ≡ length local.seen = ap (λ (y : Traced). length y.seen) tied_here in
-        let all = (lawful.laws.each local.me low (omega arith)).seen_all (place ∙ here) in
-        omega arith
+  its : IsTraced n lawful.run p taken.process
+  its = lawful.traced p taken.process taken.at_process
 
-    abbrev takes : (i : Input) → ReadsRegisters (own_of lawful.run) lawful.run.dec i → table.next_state local i ≡ Some s → IsTaken i
-    takes i holds is = each_input_is_a_step (own_of lawful.run) lawful.run.dec local s mine.own_writes mine.carried i passed holds is
+  abbrev registers_left : RegisterStates
+  registers_left = registers_after t.registers kind (wished_cell (table.wish_of local))
 
-    abbrev went_by : (i : Input) → IsTaken i → Went n lawful.run x s
-    went_by i it = record {
-      own_writes_after = it.own_writes_after;
-      carried_after = it.carried_after;
-      published = it.published;
-      step =
-          let P : ℕ → Type 0 = λ m. Step m (own_of lawful.run) lawful.run.dec (traced_of local mine.own_writes mine.carried)
-          (traced_of s it.own_writes_after it.carried_after) it.published in
-          let Q : Traced → Type 0 = λ l. Step n (own_of lawful.run) lawful.run.dec l (traced_of s it.own_writes_after it.carried_after) it.published in
-          subst Q (sym tied_here) (subst P (lawful.among local.me x at) it.step);
-      same_me = it.same_me;
-      same_processes = it.same_processes;
-    }
+  -- what the step leaves in the registers
+  record Leaves (published : Option ℕ) : Type 0 where
+    -- register i is written by process i alone
+    pub writer : (i : ℕ) → kind ≡ Write (R i) → p ≡ i
+    pub cell : (m : ℕ) (r : RegisterState) → nth registers_left.of_processes m ≡ Some r → r.cell ≡ (if m == p then next.own else own_of lawful.run m)
+    pub decision : (r : RegisterState) → registers_left.of_decision ≡ Some r → r.cell ≡ decided published
 
-    own_is : mine.own ≡ local.own
-    own_is = ap (λ (y : Traced). y.own) tied_here
+  -- the process takes a step of its table, which leaves its trace and the register of the decision so
+  record Went : Type 0 where
+    pub own_writes : List (ℕ × ℕ)
+    pub carried : List ℕ
+    pub published : Option ℕ
+    pub step : Step n (own_of lawful.run) lawful.run.dec mine (traced_of next own_writes carried) published
+    pub leaves : Leaves published
+    pub me : next.me ≡ p
+    pub among : next.processes ≡ n
 
-    -- no register changes
-    keeps_cells : (went : Went n lawful.run x s) → (s.own ≡ local.own) × (went.published ≡ lawful.run.dec) → Leaving t.registers
-    keeps_cells went kept = record {
-      went = went;
-      own_cell = λ r is. lawful.holds local.me r is ∙ (own_is ∙ sym kept.0);
-      other_cells = λ p r other is. lawful.holds p r is;
-      dec = λ r is. lawful.dec r is ∙ ap decided (sym kept.1);
-    }
+  -- an input, where there is one, by what it leaves in the registers
+  abbrev ByInput : Option Input → Option ℕ → Type 0
+  ByInput None published = (next.own ≡ local.own) × (published ≡ lawful.run.dec)
+  ByInput (Some i) published = LeavesRegisters lawful.run.dec local next published i
 
-    abbrev left_by : Reg → Option Cell → RegisterStates
-    left_by register cell = registers_after t.registers (Write register) cell
+  leaves_by : (o : Option Input) (published : Option ℕ) → input_of kind (sight_in t p kind) ≡ o → meets kind (sight_in t p kind) ≡ true
+      → ByInput o published → Leaves published
+  leaves_by o published given met by =
+      let own = own_is n t lawful p taken.process taken.at_process in
+      let me = its.me in
+      record {
+        writer = λ i is. grind (arith, common_steps, gets);
+        cell = λ m r stands. elim (shown_from t.registers kind (wished_cell (table.wish_of local)) (R m) r stands) [
+          | inl wrote ↦ grind (arith, common_steps, gets)
+          | inr old ↦ let was = lawful.holds m r old.1 in grind (arith, common_steps, gets)
+        ];
+        decision = λ r stands. elim (shown_from t.registers kind (wished_cell (table.wish_of local)) Dec r stands) [
+          | inl wrote ↦ grind (arith, common_steps, gets)
+          | inr old ↦ let was = lawful.dec r old.1 in grind (arith, common_steps, gets)
+        ];
+      }
 
-    writes : (register : Reg) → table.next_state local (input.Write register) ≡ Some s → Leaving (left_by register (wished_cell (table.wish_of local)))
-    writes (R j) is =
-        let it = takes (input.Write (R j)) tt is in
-        subst (λ cell. Leaving (left_by (R j) cell)) (sym it.leaves.1) (record {
-          went = went_by (input.Write (R j)) it;
-          own_cell = λ r is.
-              let here = subst (λ (p : ℕ). nth (update_nth (put_cell s.own) t.registers.of_processes j) p ≡ Some r) (sym it.leaves.0) is in
-              let was = mapped _ _ r (sym (nth-update_nth_same _ _ j) ∙ here) in
-              sym (ap (λ (y : RegisterState). y.cell) was.2);
-          other_cells = λ p r other is.
-              lawful.holds p r (sym (nth-update_nth_other _ _ j p (λ same. other (sym same ∙ it.leaves.0))) ∙ is);
-          dec = λ r is. lawful.dec r is ∙ ap decided (sym it.leaves.2);
-        })
-    writes Dec is =
-        let it = takes (input.Write Dec) tt is in
-        subst (λ cell. Leaving (left_by Dec cell)) (sym it.leaves.1) (record {
-          went = went_by (input.Write Dec) it;
-          own_cell = λ r is. lawful.holds local.me r is ∙ (own_is ∙ sym it.leaves.0);
-          other_cells = λ p r other is. lawful.holds p r is;
-          dec = λ r is. let was = mapped _ _ r is in sym (ap (λ (y : RegisterState). y.cell) was.2);
-        })
+  reads : (i : Input) → Brings t i → ReadsRegisters (own_of lawful.run) lawful.run.dec i
+  reads (input.Read (R j) cell) from = from.2 ∙ lawful.holds j from.0 from.1
+  reads (input.Read Dec cell) from = from.2 ∙ lawful.dec from.0 from.1
+  reads _ from = tt
 
-    reads : (i : Input) → Brings t i → ReadsRegisters (own_of lawful.run) lawful.run.dec i
-    reads (input.Read (R j) cell) from = from.2 ∙ lawful.holds j from.0 from.1
-    reads (input.Read Dec cell) from = from.2 ∙ lawful.dec from.0 from.1
-    reads _ from = tt
+  passed : place_number local.place ≡ 4 → 1 ≤ length local.seen
+  passed here =
+      let all = (its_laws n t lawful p taken.process taken.at_process).seen_all here in
+      let of_n = of_n n t lawful p taken.process taken.at_process in
+      omega (arith, all, of_n.0, of_n.1)
 
-    quiet_step : (p : ℕ) (kind : Kind) → ((r : Reg) → kind ≡ Write r → ⊥)
-        → taken_local table.next_state local (input_of kind (sight_in t p kind)) ≡ Some s → Leaving t.registers
-    quiet_step p kind quiet = go (input_of kind (sight_in t p kind)) refl
-      where
-        by_write : (r : Reg) → input_of kind (sight_in t p kind) ≡ Some (input.Write r) → kind ≡ Write r
-        by_write r is = grind (arith, common_steps, gets)
+  went_by : (o : Option Input) → input_of kind (sight_in t p kind) ≡ o → taken_local table.next_state local o ≡ Some next → Went
+  went_by None is it =
+      let same : next ≡ local = sym (same_Some local next it) in
+      record {
+        own_writes = mine.own_writes;
+        carried = mine.carried;
+        published = lawful.run.dec;
+        step = record { row = stay; is = ap (λ y. traced_of y mine.own_writes mine.carried) same ∙ sym its.tied; same = refl };
+        leaves = leaves_by None lawful.run.dec is accepted.met (ap (λ (y : LocalState). y.own) same, refl);
+        me = ap (λ (y : LocalState). y.me) same ∙ its.me;
+        among = ap (λ (y : LocalState). y.processes) same ∙ its.among;
+      }
+  went_by (Some i) is it =
+      let read = reads i (brings t p kind i is) in
+      let its_step = each_input_is_a_step (own_of lawful.run) lawful.run.dec local next mine.own_writes mine.carried i passed read it in
+      let P : ℕ → Traced → Type 0 = λ m l. Step m (own_of lawful.run) lawful.run.dec l
+      (traced_of next its_step.own_writes_after its_step.carried_after) its_step.published in
+      record {
+        own_writes = its_step.own_writes_after;
+        carried = its_step.carried_after;
+        published = its_step.published;
+        step = subst (P n) (sym its.tied) (subst (λ m. P m (traced_of local mine.own_writes mine.carried)) its.among its_step.step);
+        leaves = leaves_by (Some i) its_step.published is accepted.met its_step.leaves;
+        me = its_step.same_me ∙ its.me;
+        among = its_step.same_processes ∙ its.among;
+      }
 
-        go : (o : Option Input) → input_of kind (sight_in t p kind) ≡ o → taken_local table.next_state local o ≡ Some s → Leaving t.registers
-        go None is it =
-            let same : s ≡ local = sym (same_Some local s it) in
-            keeps_cells (record {
-              own_writes_after = mine.own_writes;
-              carried_after = mine.carried;
-              published = lawful.run.dec;
-              step = record { row = stay; is = ap (λ y. traced_of y mine.own_writes mine.carried) same ∙ sym tied_here; same = refl };
-              same_me = ap (λ (y : LocalState). y.me) same;
-              same_processes = ap (λ (y : LocalState). y.processes) same;
-            }) (ap (λ (y : LocalState). y.own) same, refl)
-        go (Some (input.Write r)) is it = absurd (quiet r (by_write r is))
-        go (Some i) is it = let taken = takes i (reads i (brings t p kind i is)) it in keeps_cells (went_by i taken) taken.leaves
+  went : Went
+  went = went_by _ refl accepted.takes
 
-    kind_step : (p : ℕ) (kind : Kind) → meets kind (sight_in t p kind) ≡ true
-        → taken_local table.next_state local (input_of kind (sight_in t p kind)) ≡ Some s
-        → Leaving (registers_after t.registers kind (wished_cell (table.wish_of local)))
-    kind_step p (Write register) met is = go (register_of t.registers register) met is
-      where
-        go : (o : Option RegisterState) → is_some o ≡ true
-            → taken_local table.next_state local (option_map (λ (stands : RegisterState). input.Write register) o) ≡ Some s
-            → Leaving (left_by register (wished_cell (table.wish_of local)))
-        go None there it = absurd (true≢false (sym there))
-        go (Some stands) there it = writes register it
-    kind_step p kind met is = quiet_step p kind (λ r same. cc) is
+  -- the run after the step
+  abbrev left : Traced
+  left = traced_of next went.own_writes went.carried
 
-  -- the state after a step of a process x that goes on to the local state s
-  module _ (p k : ℕ) (kind : Kind) (x : ProcessState LocalState) (s : LocalState) (at : nth t.processes p ≡ Some x)
-      (met : meets kind (sight_in t p kind) ≡ true) (is : taken_local table.next_state x.progress.local (input_of kind (sight_in t p kind)) ≡ Some s) where
-    is_me : x.progress.local.me ≡ p
-    is_me = lawful.me p x at
+  abbrev run_left : Run
+  run_left = record { traced = λ o. if o == p then left else lawful.run.traced o; dec = went.published }
 
-    kinded : Kinded n lawful.run x s (registers_after t.registers kind (wished_cell (table.wish_of x.progress.local)))
-    kinded = kind_step x (subst (λ o. nth t.processes o ≡ Some x) (sym is_me) at) s p kind met is
+  here : run_left.traced p ≡ left
+  here = ap (λ b. if b then left else lawful.run.traced p) (eq-eqb p p refl)
 
-    abbrev left : ProcessState LocalState
-    left = process_after (alpha_machine setup) x p k kind (sight_in t p kind) s
+  elsewhere : (o : ℕ) → (o ≡ p → ⊥) → run_left.traced o ≡ lawful.run.traced o
+  elsewhere o other = grind (arith, common_steps, gets)
 
-    abbrev to : RunState LocalState
-    to = state_after (alpha_machine setup) t p k kind x s
+  moves : RunStep n lawful.run run_left
+  moves = record {
+    process = p;
+    of_n = of_n n t lawful p taken.process taken.at_process;
+    step = subst (λ l. Step n (own_of lawful.run) lawful.run.dec mine l went.published) (sym here) went.step;
+    others = elsewhere;
+  }
 
-    abbrev traced_left : Traced
-    traced_left = traced_of s kinded.went.own_writes_after kinded.went.carried_after
+  registers_are : registers_left ≡ to.registers
+  registers_are = ap (λ (y : RunState LocalState). y.registers) taken.leads_to
 
-    abbrev run_left : Run
-    run_left = record { traced = put lawful.run.traced p traced_left; dec = kinded.went.published }
+  cell_is : (m : ℕ) → (if m == p then next.own else own_of lawful.run m) ≡ (run_left.traced m).own
+  cell_is m = grind (arith, common_steps, gets)
 
-    traced_here : run_left.traced p ≡ traced_left
-    traced_here = put_same lawful.run.traced p _
+  lawful_left : Lawful n to
+  lawful_left = record {
+    run = run_left;
+    laws = run_step_keeps n lawful.run run_left lawful.laws moves;
+    size = ap (λ (y : RunState LocalState). length y.processes) (sym taken.leads_to) ∙ length-set_nth t.processes p _ ∙ lawful.size;
+    traced =
+        each_after (alpha_machine setup) t to p k kind taken (IsTraced n run_left)
+        (record { me = went.me; among = went.among; tied = rw here refl })
+        (λ o x other at.
+        let was = lawful.traced o x at in
+        let same = elsewhere o (λ same. other (sym same)) in
+        grind (arith, common_steps, gets));
+    holds = λ m r is. went.leaves.cell m r (rw registers_are is) ∙ cell_is m;
+    dec = λ r is. went.leaves.decision r (rw registers_are is);
+  }
 
-    traced_other : (o : ℕ) → (o ≡ p → ⊥) → run_left.traced o ≡ lawful.run.traced o
-    traced_other o other = put_other lawful.run.traced p _ o other
-
-    moves : RunStep n lawful.run run_left
-    moves = record {
-      process = p;
-      low = nth_low t.processes p x at;
-      high = let within = nth_within _ p x at in let size = lawful.size in omega arith;
-      step =
-          let P : ℕ → Type 0 = λ o. Step n (own_of lawful.run) lawful.run.dec (lawful.run.traced o) traced_left kinded.went.published in
-          let Q : Traced → Type 0 = λ l. Step n (own_of lawful.run) lawful.run.dec (lawful.run.traced p) l kinded.went.published in
-          subst Q (sym traced_here) (subst P is_me kinded.went.step);
-      others = traced_other;
-    }
-
-    abbrev IsTied : ProcessState LocalState → Traced → Type 0
-    IsTied y l = l ≡ traced_of y.progress.local l.own_writes l.carried
-
-    -- what the registers hold after the step
-    holds_after : (o : ℕ) (r : RegisterState) → nth to.registers.of_processes o ≡ Some r → (o ≡ p) ⊎ (o ≡ p → ⊥) → r.cell ≡ (run_left.traced o).own
-    holds_after o r is_r (inl same) =
-        let here = subst (λ i. nth to.registers.of_processes i ≡ Some r) (same ∙ sym is_me) is_r in
-        kinded.own_cell r here ∙ sym (ap (λ (l : Traced). l.own) (ap run_left.traced same ∙ traced_here))
-    holds_after o r is_r (inr other) =
-        kinded.other_cells o r (λ same. other (same ∙ is_me)) is_r ∙ sym (ap (λ (l : Traced). l.own) (traced_other o other))
-
-    lawful_left : Lawful n to
-    lawful_left = record {
-      run = run_left;
-      laws = run_step_keeps n _ _ lawful.laws moves;
-      size = length-set_nth _ p left ∙ lawful.size;
-      me = each_place (λ o y. y.progress.local.me ≡ o) t.processes p left x at (kinded.went.same_me ∙ is_me) (λ o y other. lawful.me o y);
-      among =
-          each_place (λ o y. y.progress.local.processes ≡ n) t.processes p left x at (kinded.went.same_processes ∙ lawful.among p x at)
-          (λ o y other. lawful.among o y);
-      tied =
-          each_place (λ o y. IsTied y (run_left.traced o)) t.processes p left x at (subst (IsTied left) (sym traced_here) refl)
-          (λ o y other was. subst (IsTied y) (sym (traced_other o other)) (lawful.tied o y was));
-      holds = λ o r is_r. holds_after o r is_r (cases_eq o p);
-      dec = kinded.dec;
-    }
-
-  -- register i is written by process i alone
-  pub writes_alone : (p k i : ℕ) (to : RunState LocalState) → after (alpha_machine setup) t (happening.Step p k (Write (R i))) ≡ Some to → p ≡ i
-  writes_alone p k i to is = grind (arith, common_steps, gets)
-
-  -- a next state keeps the laws, and the rounds in the cells don't fall
-  record GoesOn (to : RunState LocalState) : Type 0 where
-    pub lawful_to : Lawful n to
-    pub up : (i : ℕ) → ((lawful.run.traced i).own.lre ≤ (lawful_to.run.traced i).own.lre) × ((lawful.run.traced i).own.lrww ≤ (lawful_to.run.traced i).own.lrww)
-
-  goes_on : (event : Event) (to : RunState LocalState) → after (alpha_machine setup) t event ≡ Some to → GoesOn to
+  rises_by_step : (i : ℕ) (before later : RegisterState) → IsRegister t i before → IsRegister to i later
+      → (before.cell.lre ≤ later.cell.lre) × (before.cell.lrww ≤ later.cell.lrww)
   unfolding lawful_left
-  goes_on (happening.Step p k kind) to is =
-      let taken = taken_from (alpha_machine setup) t to p k kind is in
-      let accepted = parts (alpha_machine setup) t to p k kind taken in
-      subst GoesOn taken.leads_to (record {
-        lawful_to = lawful_left p k kind taken.process taken.next taken.at_process accepted.met accepted.takes;
-        up = cells_rise n _ _ lawful.laws (moves p k kind taken.process taken.next taken.at_process accepted.met accepted.takes);
-      })
-  goes_on (happening.Lost copy) to is =
-      let lost = where_true _ _ to is in
-      subst GoesOn (same_Some (record t { lost = set.insert t.lost copy }) to lost.1) (record {
-        lawful_to = record {
-          run = lawful.run;
-          laws = lawful.laws;
-          size = lawful.size;
-          me = lawful.me;
-          among = lawful.among;
-          tied = lawful.tied;
-          holds = lawful.holds;
-          dec = lawful.dec;
-        };
-        up = λ i. (omega arith, omega arith);
-      })
+  rises_by_step i before later at there =
+      let within = nth_among t.registers.of_processes i before at in
+      rw (lawful.holds i before at, lawful_left.holds i later there) (cells_rise n lawful.run run_left lawful.laws moves i within.0)
 
-  -- an enabled event keeps the laws
-  pub after_lawful : (event : Event) (to : RunState LocalState) → after (alpha_machine setup) t event ≡ Some to → Lawful n to
-  after_lawful event to is = (goes_on event to is).lawful_to
+-- ---- each state that a valid history reaches
+
+kept : (setup : Parts) (n : ℕ) → IsKept (alpha_machine setup) (Lawful n)
+kept setup n = record {
+  lost = λ t lost it. record { run = it.run; laws = it.laws; size = it.size; traced = it.traced; holds = it.holds; dec = it.dec };
+  stepped = lawful_left setup n;
+}
+
+module _ (setup : Parts) (ranges : AreInRange setup) (history : List Event) (t : RunState LocalState)
+    (is : fold (alpha_machine setup) history ≡ Some t) where
+  abbrev n : ℕ
+  n = setup.processes
+
+  lawful : Lawful n t
+  lawful = reached (alpha_machine setup) (Lawful n) (kept setup n) (start_lawful setup ranges.an_input_each) history t is
+
+  pub alpha_agrees : AllAgree (decisions_of (λ local. local.decision) t)
+  alpha_agrees =
+      agreeing (λ (local : LocalState). local.decision) t
+      (λ p o v w (x, at, mine) (y, there, other).
+      one_settled n lawful.run lawful.laws v w (has_settled n t lawful p x at v mine) (has_settled n t lawful o y there w other))
 
   -- whatever event comes next, the rounds in the registers never fall
-  pub rises : (event : Event) (to : RunState LocalState) → after (alpha_machine setup) t event ≡ Some to → (i : ℕ) (before later : RegisterState)
-      → nth t.registers.of_processes i ≡ Some before → nth to.registers.of_processes i ≡ Some later
-      → (before.cell.lre ≤ later.cell.lre) × (before.cell.lrww ≤ later.cell.lrww)
-  rises event to is i before later at there =
-      let it = goes_on event to is in
-      let up = it.up i in
-      rw (lawful.holds i before at, it.lawful_to.holds i later there) up
+  rises : (event : Event) (to : RunState LocalState) → after (alpha_machine setup) t event ≡ Some to → (i : ℕ) (before later : RegisterState)
+      → IsRegister t i before → IsRegister to i later → (before.cell.lre ≤ later.cell.lre) × (before.cell.lrww ≤ later.cell.lrww)
+  rises (happening.Step p k kind) to leads i before later at there =
+      rises_by_step setup n t to p k kind (taken_from (alpha_machine setup) t to p k kind leads) lawful i before later at there
+  rises (happening.Lost copy) to leads i before later at there =
+      let same = (lost_from (alpha_machine setup) t to copy leads).1 in grind (arith, common_steps, gets)
 
--- each state that a valid history reaches keeps the laws
-pub reached_lawful : (setup : Parts) → length setup.inputs ≡ setup.processes → (history : List Event) (t : RunState LocalState)
-    → fold (alpha_machine setup) history ≡ Some t → Lawful setup.processes t
-reached_lawful setup each history t is =
-    reached_keeps (after (alpha_machine setup)) _ (λ s e u it. after_lawful setup.processes setup s it e u)
-    _ history t (start_lawful setup each) is
+  decided_rounds : (v : ℕ) → Settled n lawful.run v → (r : ℕ) × (1 ≤ r) × ((i : ℕ) (x : ProcessState LocalState) (register : RegisterState)
+      → IsProcess t i x → IsRegister t i register → r ≤ register.cell.lrww → register.cell.val ≡ Some v)
+  decided_rounds v settled =
+      let low = ((lawful.laws.each settled.i settled.of_n.0).written_low settled.r v settled.wrote).0 in (
+        settled.r,
+        low,
+        λ i x register at shown later.
+            let holds = lawful.holds i register shown in
+            let of_n = of_n n t lawful i x at in
+            let from : settled.r ≤ (own_of lawful.run i).lrww = omega (arith, later, ap (λ (c : Cell). c.lrww) holds) in
+            let own = (lawful.laws.each i of_n.0).own_known (omega (arith, from, low)) in
+            ap (λ (c : Cell). c.val) holds ∙ own.1 ∙ ap (λ (y : ℕ). Some y) (settled_follows n lawful.run lawful.laws v settled i _ own.0 of_n own.2 from),
+      )
 
--- no two processes decide differently in a valid history
-one_decision : (setup : Parts) → length setup.inputs ≡ setup.processes → (history : List Event) (t : RunState LocalState)
-    → fold (alpha_machine setup) history ≡ Some t
-    → (p o v w : ℕ) → HasDecided (λ (local : LocalState). local.decision) t p v → HasDecided (λ (local : LocalState). local.decision) t o w → v ≡ w
-one_decision setup each history t is p o v w mine other =
-    let size = lawful.size in
-    let here = nth_within _ p mine.0 mine.1 in
-    let there = nth_within _ o other.0 other.1 in
-    laws_agree _ _ lawful.laws p o (nth_low _ p mine.0 mine.1) (omega arith) (nth_low _ o other.0 other.1) (omega arith) v w
-    (ap (λ (l : Traced). l.decision) (lawful.tied p mine.0 mine.1) ∙ mine.2) (ap (λ (l : Traced). l.decision) (lawful.tied o other.0 other.1) ∙ other.2)
-  where
-    lawful : Lawful setup.processes t
-    lawful = reached_lawful setup each history t is
-
-pub alpha_agrees : (setup : Parts) → AreInRange setup → (history : List Event) (t : RunState LocalState) → fold (alpha_machine setup) history ≡ Some t
-    → AllAgree (decisions_of (λ local. local.decision) t)
-alpha_agrees setup ranges history t is = agreeing (λ (local : LocalState). local.decision) t (one_decision setup ranges.an_input_each history t is)
+  pub alpha_rounds : AlphaRounds (alpha_machine setup) n t
+  alpha_rounds = record {
+    writer = λ p k i to leads.
+        let taken = taken_from (alpha_machine setup) t to p k (Write (R i)) leads in
+        (went setup n t to p k (Write (R i)) taken lawful).leaves.writer i refl;
+    shown = λ i x register at shown.
+        let holds = lawful.holds i register shown ∙ own_is n t lawful i x at in
+        let order = (its_laws n t lawful i x at).order in
+        (holds, rw holds order.0, rw holds order.1);
+    no_round = λ register shown. let holds = lawful.dec register shown in (ap (λ (c : Cell). c.lre) holds, ap (λ (c : Cell). c.lrww) holds);
+    rising = rises;
+    own_round = λ p x at. (its_laws n t lawful p x at).own_class;
+    pass = λ p x at here.
+        let laws = its_laws n t lawful p x at in (laws.seen_all here, laws.entered_here (omega (arith, here)) (omega (arith, here)));
+    decided = λ p v x at is. decided_rounds v (has_settled n t lawful p x at v is);
+  }

@@ -1,27 +1,23 @@
--- What each step of one process of the Alpha machine keeps.
+-- What each step of one process of the Alpha machine keeps, and when a round can still be carried through.
 use Rattle.std.proofs.lemmas.Grind.{common_steps}
 use Rattle.std.proofs.lemmas.Option.{gets}
 use Rattle.std.specs.Prelude.{◌≡◌, ℕ, suc, ◌+◌, ◌*◌, ◌<◌, ◌≤◌, [], ◌∷◌, ◌++◌, length, Option, Some, None, ◌⊎◌, refl}
-use Rattle.std.proofs.Common.{inl, inr, arith, sym, ◌∙◌, ap, subst, length-append}
+use Rattle.std.proofs.Common.{inl, inr, arith, sym, ◌∙◌, subst, length-append}
+use Rattle.std.proofs.lemmas.Bool.{cases_eq}
 use Rattle.cdb_base.specs.declared.register.Cell.{Cell}
+use Rattle.cdb_process.proofs.Members.{IsIn, in_push, in_push_old, in_push_new, in_contained}
+use Rattle.cdb_setup.specs.Parts.{IsWithin}
 use Rattle.cdb_alpha.specs.LocalState.{first_cell}
-use Rattle.cdb_process.proofs.Members.{IsIn, in_push, in_push_new}
-use Rattle.cdb_alpha.specs.Steps.{Traced, FoundedRow, after_row, Step, decide, enter, read, give_up, write}
-use Rattle.cdb_alpha.specs.Steps.{read_again, fail, carry, publish}
+use Rattle.cdb_alpha.specs.Steps.{Traced, FoundedRow, after_row, published_by, stay, read, write, read_again, carry, publish}
+use Rattle.cdb_alpha.specs.Steps.{enter, give_up, fail}
 
 -- before its first step
 abbrev pub first_traced : ℕ → ℕ → Traced
 first_traced me input =
     record { place = 0; round = me; value = input; own = first_cell; seen = []; decision = None; own_writes = []; carried = [] }
 
--- the cell was written in its round, if in any
-pub record KnownCell (somebody : ℕ → ℕ → Type 0) (c : Cell) : Type 0 where
-  pub order : c.lrww ≤ c.lre
-  pub known : 0 < c.lrww → (v : ℕ) × (c.val ≡ Some v) × somebody c.lrww v
-
--- what holds of process j of n after any of its steps. `somebody r v` says that a process wrote v in round r, `settled v` that a
--- process carried a round through in which it wrote v
-pub record TracedLaws (n j : ℕ) (somebody : ℕ → ℕ → Type 0) (settled : ℕ → Type 0) (l : Traced) : Type 0 where
+-- what holds of process j of n after any of its steps
+pub record TracedLaws (n j : ℕ) (l : Traced) : Type 0 where
   pub own_class : (a : ℕ) × (l.round ≡ j + a * n)
   pub order : (l.own.lrww ≤ l.own.lre) × (l.own.lre ≤ l.round)
   pub entered_here : 3 ≤ l.place → l.place ≤ 8 → l.own.lre ≡ l.round
@@ -29,55 +25,31 @@ pub record TracedLaws (n j : ℕ) (somebody : ℕ → ℕ → Type 0) (settled :
   pub own_known : 0 < l.own.lrww → (v : ℕ) × (l.own.val ≡ Some v) × IsIn (l.own.lrww, v) l.own_writes
   pub written_low : (r v : ℕ) → IsIn (r, v) l.own_writes → (1 ≤ r) × (r ≤ l.own.lrww) × ((a : ℕ) × (r ≡ j + a * n))
   pub one_write : (r v x : ℕ) → IsIn (r, v) l.own_writes → IsIn (r, x) l.own_writes → v ≡ x
-  pub seen_known : (c : Cell) → IsIn c l.seen → KnownCell somebody c
   pub seen_all : l.place ≡ 4 → length l.seen ≡ n
   pub value_here : 6 ≤ l.place → l.place ≤ 8 → IsIn (l.round, l.value) l.own_writes
-  pub carried_past : (r : ℕ) → IsIn r l.carried → (r < l.round) ⊎ ((r ≡ l.round) × (l.place ≡ 8))
+  pub carried_low : (r : ℕ) → IsIn r l.carried → r ≤ l.own.lrww
   pub carried_here : l.place ≡ 8 → IsIn l.round l.carried
-  pub decision_settled : (v : ℕ) → l.decision ≡ Some v → settled v
 
-pub laws_follow : (n j : ℕ) (S T : ℕ → ℕ → Type 0) (D E : ℕ → Type 0) (l : Traced) → ((r v : ℕ) → S r v → T r v) → ((v : ℕ) → D v → E v)
-    → TracedLaws n j S D l → TracedLaws n j T E l
-laws_follow n j S T D E l more further laws = record {
-  own_class = laws.own_class;
-  order = laws.order;
-  entered_here = laws.entered_here;
-  fresh = laws.fresh;
-  own_known = laws.own_known;
-  written_low = laws.written_low;
-  one_write = laws.one_write;
-  seen_known = λ c it. let old = laws.seen_known c it in record {
-    order = old.order;
-    known = λ positive. let was = old.known positive in (was.0, was.1, more c.lrww was.0 was.2);
-  };
-  seen_all = laws.seen_all;
-  value_here = laws.value_here;
-  carried_past = laws.carried_past;
-  carried_here = laws.carried_here;
-  decision_settled = λ v is. further v (laws.decision_settled v is);
-}
+pub first_traced_laws : (n j input : ℕ) → 1 ≤ j → TracedLaws n j (first_traced j input)
+first_traced_laws n j input low = grind (arith, common_steps, gets)
 
-pub first_traced_laws : (n j input : ℕ) (S : ℕ → ℕ → Type 0) (D : ℕ → Type 0) → 1 ≤ j → TracedLaws n j S D (first_traced j input)
-first_traced_laws n j input S D low = record {
-  own_class = (0, omega arith);
-  order = (omega arith, omega arith);
-  entered_here = λ from to. absurd (omega arith);
-  fresh = λ early. omega arith;
-  own_known = λ positive. absurd (omega arith);
-  written_low = λ r v none. elim none [ ];
-  one_write = λ r v x none other. elim none [ ];
-  seen_known = λ c none. elim none [ ];
-  seen_all = λ at. absurd (omega arith);
-  value_here = λ from to. absurd (omega arith);
-  carried_past = λ r none. elim none [ ];
-  carried_here = λ at. absurd (omega arith);
-  decision_settled = λ v is. absurd (cc);
-}
+-- of a process in its second pass of round r: it has seen no cell that was entered in a later round, and won't read one
+pub record CanCarry (n : ℕ) (own : ℕ → Cell) (l : Traced) (r : ℕ) : Type 0 where
+  pub here : l.round ≡ r
+  pub pass : (6 ≤ l.place) × (l.place ≤ 7)
+  pub seen : (c : Cell) → IsIn c l.seen → c.lre ≤ r
+  pub ahead : l.place ≡ 6 → (m : ℕ) → length l.seen < m → m ≤ n → (own m).lre ≤ r
 
--- each row keeps the laws, where the registers hold known cells and the decision register a settled value
-module _ (n j : ℕ) (low : 1 ≤ j) (high : j ≤ n) (somebody : ℕ → ℕ → Type 0) (settled : ℕ → Type 0) (own : ℕ → Cell) (dec : Option ℕ) (l : Traced)
-    (known : (m : ℕ) → 1 ≤ m → m ≤ n → KnownCell somebody (own m)) (known_dec : (v : ℕ) → dec ≡ Some v → settled v)
-    (laws : TracedLaws n j somebody settled l) where
+-- the process has carried its round r through, or still can
+abbrev pub Alive : ℕ → (ℕ → Cell) → Traced → ℕ → Type 0
+Alive n own l r = IsIn r l.carried ⊎ CanCarry n own l r
+
+pub alive_before : (n : ℕ) (own later : ℕ → Cell) (l : Traced) (r : ℕ) → ((m : ℕ) → 1 ≤ m → (own m).lre ≤ (later m).lre)
+    → Alive n later l r → Alive n own l r
+alive_before n own later l r up alive = grind (arith, common_steps, gets)
+
+-- a row takes process j of n from l to the state that it leaves
+module _ (n j : ℕ) (some_process : 1 ≤ n) (own : ℕ → Cell) (dec : Option ℕ) (l : Traced) (laws : TracedLaws n j l) where
   abbrev Row : Type 0
   Row = FoundedRow n own dec l
 
@@ -93,97 +65,107 @@ module _ (n j : ℕ) (low : 1 ≤ j) (high : j ≤ n) (somebody : ℕ → ℕ �
   own_class_left (publish here) = next_class
   own_class_left _ = laws.own_class
 
-  order_left : (row : Row) → ((left row).own.lrww ≤ (left row).own.lre) × ((left row).own.lre ≤ (left row).round)
-  order_left row = grind (arith, common_steps, gets)
+  -- what is written after a row was written before it, or the row writes it
+  pub written_from : (row : Row) → (r v : ℕ) → IsIn (r, v) (left row).own_writes
+      → IsIn (r, v) l.own_writes ⊎ ((l.place ≡ 5) × (r ≡ l.round) × (v ≡ l.value) × ((left row).own.lrww ≡ l.round))
+  written_from row r v it = grind (arith, common_steps, gets, in_push (r, v) (l.round, l.value) l.own_writes)
 
-  entered_left : (row : Row) → 3 ≤ (left row).place → (left row).place ≤ 8 → (left row).own.lre ≡ (left row).round
-  entered_left row from to = grind (arith, common_steps, gets)
+  pub written_still : (row : Row) → (e : ℕ × ℕ) → IsIn e l.own_writes → IsIn e (left row).own_writes
+  written_still row e it = grind (arith, common_steps, gets, in_push_old e (l.round, l.value) l.own_writes)
 
-  fresh_left : (row : Row) → (left row).place ≤ 5 → (left row).own.lrww < (left row).round
-  fresh_left row early = grind (arith, common_steps, gets)
+  carried_from : (row : Row) → (r : ℕ) → IsIn r (left row).carried → IsIn r l.carried ⊎ ((l.place ≡ 7) × (r ≡ l.round))
+  carried_from row r it = grind (arith, common_steps, gets, in_push r l.round l.carried)
+
+  pub carried_still : (row : Row) → (r : ℕ) → IsIn r l.carried → IsIn r (left row).carried
+  carried_still row r it = grind (arith, common_steps, gets, in_push_old r l.round l.carried)
+
+  -- the rounds in the cell of the process never fall
+  pub rises : (row : Row) → (l.own.lre ≤ (left row).own.lre) × (l.own.lrww ≤ (left row).own.lrww)
+  rises row = grind (arith, common_steps, gets)
 
   own_known_left : (row : Row) → 0 < (left row).own.lrww → (v : ℕ) × ((left row).own.val ≡ Some v) × IsIn ((left row).own.lrww, v) (left row).own_writes
   own_known_left (write here) positive = (l.value, refl, in_push_new _ _)
   own_known_left _ positive = laws.own_known positive
 
-  written_low_left : (row : Row) → (r v : ℕ) → IsIn (r, v) (left row).own_writes → (1 ≤ r) × (r ≤ (left row).own.lrww) × ((a : ℕ) × (r ≡ j + a * n))
-  written_low_left (write here) r v it = below (in_push (r, v) _ _ it)
-    where
-      below : IsIn (r, v) l.own_writes ⊎ (◌≡◌ {A = ℕ × ℕ} (r, v) (l.round, l.value)) → (1 ≤ r) × (r ≤ l.round) × ((a : ℕ) × (r ≡ j + a * n))
-      below (inl old) = let is = laws.written_low r v old in let order = laws.order in (is.0, omega arith, is.2)
-      below (inr new) =
-          let same : r ≡ l.round = ap (λ (e : ℕ × ℕ). e.0) new in
-          let fresh = laws.fresh (omega arith) in
-          (omega arith, omega arith, (laws.own_class.0, same ∙ laws.own_class.1))
-  written_low_left _ r v it = laws.written_low r v it
+  -- in the round in which the process writes it has not written before
+  not_yet : (r v : ℕ) → IsIn (r, v) l.own_writes → l.place ≡ 5 → r ≡ l.round → ⊥
+  not_yet r v old here same = let is = laws.written_low r v old in let fresh = laws.fresh (omega arith) in omega arith
 
-  one_write_left : (row : Row) → (r v x : ℕ) → IsIn (r, v) (left row).own_writes → IsIn (r, x) (left row).own_writes → v ≡ x
-  one_write_left (write here) r v x it other = one (in_push (r, v) _ _ it) (in_push (r, x) _ _ other)
-    where
-      late : (y : ℕ) → IsIn (r, y) l.own_writes → r ≡ l.round → ⊥
-      late y old same = let is = laws.written_low r y old in let fresh = laws.fresh (omega arith) in omega arith
+  pub row_keeps : (row : Row) → TracedLaws n j (left row)
+  row_keeps row = record {
+    own_class = own_class_left row;
+    order = grind (arith, common_steps, gets);
+    entered_here = λ from to. grind (arith, common_steps, gets);
+    fresh = λ early. grind (arith, common_steps, gets);
+    own_known = own_known_left row;
+    written_low = λ r v it. elim (written_from row r v it) [
+      | inl old ↦ let is = laws.written_low r v old in let up = rises row in (is.0, omega arith, is.2)
+      | inr new ↦ let fresh = laws.fresh (omega arith) in (omega arith, omega arith, (laws.own_class.0, new.1 ∙ laws.own_class.1))
+    ];
+    one_write = λ r v x it other.
+        grind (arith, common_steps, gets, written_from row r v it, written_from row r x other, laws.one_write r v x, not_yet r v, not_yet r x);
+    seen_all = λ at. let long = length-append l.seen (own (suc (length l.seen)) ∷ []) in grind (arith, common_steps, gets);
+    value_here = λ from to. let new = in_push_new (l.round, l.value) l.own_writes in grind (arith, common_steps, gets);
+    carried_low = λ r it. let up = rises row in elim (carried_from row r it) [
+      | inl old ↦ let low = laws.carried_low r old in omega arith
+      | inr now ↦ let low = laws.written_low l.round l.value (laws.value_here (omega arith) (omega arith)) in omega arith
+    ];
+    carried_here = λ at. let new = in_push_new l.round l.carried in grind (arith, common_steps, gets);
+  }
 
-      one : IsIn (r, v) l.own_writes ⊎ (◌≡◌ {A = ℕ × ℕ} (r, v) (l.round, l.value))
-          → IsIn (r, x) l.own_writes ⊎ (◌≡◌ {A = ℕ × ℕ} (r, x) (l.round, l.value)) → v ≡ x
-      one (inl old) (inl other) = laws.one_write r v x old other
-      one (inl old) (inr other) = absurd (late v old (ap (λ (e : ℕ × ℕ). e.0) other))
-      one (inr new) (inl other) = absurd (late x other (ap (λ (e : ℕ × ℕ). e.0) new))
-      one (inr new) (inr other) = ap (λ (e : ℕ × ℕ). e.1) (new ∙ sym other)
-  one_write_left _ r v x it other = laws.one_write r v x it other
+  seen_more : (c : Cell) → suc (length l.seen) ≤ n → IsIn c (l.seen ++ own (suc (length l.seen)) ∷ [])
+      → IsIn c l.seen ⊎ ((m : ℕ) × IsWithin 1 n m × (c ≡ own m))
+  seen_more c within it = elim (in_push c _ l.seen it) [ inl old ↦ inl old | inr new ↦ inr (suc (length l.seen), (omega arith, within), new) ]
 
-  seen_more : length l.seen < n → (c : Cell) → IsIn c (l.seen ++ own (suc (length l.seen)) ∷ []) → KnownCell somebody c
-  seen_more within c it = go (in_push c _ l.seen it)
-    where
-      go : IsIn c l.seen ⊎ (c ≡ own (suc (length l.seen))) → KnownCell somebody c
-      go (inl old) = laws.seen_known c old
-      go (inr new) = subst (λ x. KnownCell somebody x) (sym new) (known (suc (length l.seen)) (omega arith) within)
+  -- a cell that the process has seen after a row it had seen before, or a register held it
+  pub seen_from : (row : Row) → (c : Cell) → IsIn c (left row).seen → IsIn c l.seen ⊎ ((m : ℕ) × IsWithin 1 n m × (c ≡ own m))
+  seen_from (enter here) c none = elim none [ ]
+  seen_from (write here) c none = elim none [ ]
+  seen_from (read p here pass) c it = seen_more c (grind (arith, common_steps, gets)) it
+  seen_from (read_again p here pass) c it = seen_more c (grind (arith, common_steps, gets)) it
+  seen_from _ c it = inl it
 
-  seen_known_left : (row : Row) → (c : Cell) → IsIn c (left row).seen → KnownCell somebody c
-  seen_known_left (enter here) c none = elim none [ ]
-  seen_known_left (write here) c none = elim none [ ]
-  seen_known_left (read p here (inl on)) c it = seen_more (omega arith) c it
-  seen_known_left (read p here (inr over)) c it = seen_more (omega arith) c it
-  seen_known_left (read_again p here (inl on)) c it = seen_more (omega arith) c it
-  seen_known_left (read_again p here (inr over)) c it = seen_more (omega arith) c it
-  seen_known_left _ c it = laws.seen_known c it
+  -- a decision was made before, or the register of the decision held it
+  pub decision_from : (row : Row) → (v : ℕ) → (left row).decision ≡ Some v → (l.decision ≡ Some v) ⊎ (dec ≡ Some v)
+  decision_from row v is = grind (arith, common_steps, gets)
 
-  seen_all_left : (row : Row) → (left row).place ≡ 4 → length (left row).seen ≡ n
-  seen_all_left row at = let long = length-append l.seen (own (suc (length l.seen)) ∷ []) in grind (arith, common_steps, gets)
+  -- what the register of the decision holds after a row it held before, or the process had carried a round through in which it wrote it
+  pub published_from : (row : Row) → (v : ℕ) → published_by n own dec l row ≡ Some v
+      → (dec ≡ Some v) ⊎ ((r : ℕ) × IsIn r l.carried × IsIn (r, v) l.own_writes)
+  published_from (publish here) v is =
+      let same : l.value ≡ v = cc in
+      inr (l.round, laws.carried_here here, subst (λ x. IsIn (l.round, x) l.own_writes) same (laws.value_here (omega arith) (omega arith)))
+  published_from _ v is = inl is
 
-  value_here_left : (row : Row) → 6 ≤ (left row).place → (left row).place ≤ 8 → IsIn ((left row).round, (left row).value) (left row).own_writes
-  value_here_left row from to = let new = in_push_new (l.round, l.value) l.own_writes in grind (arith, common_steps, gets)
-
-  past_left : (row : Row) → (r : ℕ) → IsIn r l.carried → (r < (left row).round) ⊎ ((r ≡ (left row).round) × ((left row).place ≡ 8))
-  past_left row r it = let was = laws.carried_past r it in grind (arith, common_steps, gets)
-
-  carried_past_left : (row : Row) → (r : ℕ) → IsIn r (left row).carried → (r < (left row).round) ⊎ ((r ≡ (left row).round) × ((left row).place ≡ 8))
-  carried_past_left (carry here low) r it = go (in_push r l.round _ it)
-    where
-      go : IsIn r l.carried ⊎ (r ≡ l.round) → (r < l.round) ⊎ ((r ≡ l.round) × (◌≡◌ {A = ℕ} 8 8))
-      go (inl old) = past_left (carry here low) r old
-      go (inr new) = inr (new, refl)
-  carried_past_left row r it = past_left row r it
-
-  carried_here_left : (row : Row) → (left row).place ≡ 8 → IsIn (left row).round (left row).carried
-  carried_here_left row at = let new = in_push_new l.round l.carried in grind (arith, common_steps, gets)
-
-  settled_left : (row : Row) → (v : ℕ) → (left row).decision ≡ Some v → settled v
-  settled_left (decide x here found) v is = known_dec v (found ∙ is)
-  settled_left _ v is = laws.decision_settled v is
-
-  pub step_keeps : (k : Traced) (published : Option ℕ) → Step n own dec l k published → TracedLaws n j somebody settled k
-  step_keeps k published step = subst (λ x. TracedLaws n j somebody settled x) (sym step.is) (record {
-    own_class = own_class_left step.row;
-    order = order_left step.row;
-    entered_here = entered_left step.row;
-    fresh = fresh_left step.row;
-    own_known = own_known_left step.row;
-    written_low = written_low_left step.row;
-    one_write = one_write_left step.row;
-    seen_known = seen_known_left step.row;
-    seen_all = seen_all_left step.row;
-    value_here = value_here_left step.row;
-    carried_past = carried_past_left step.row;
-    carried_here = carried_here_left step.row;
-    decision_settled = settled_left step.row;
+  -- where a round that was written in is alive after a row, it was so before
+  pub was_alive : (row : Row) → (r v : ℕ) → IsIn (r, v) l.own_writes → Alive n own (left row) r → Alive n own l r
+  was_alive stay r v wrote alive = alive
+  was_alive (carry here low) r v wrote (inl carried) = elim (in_push r l.round l.carried carried) [
+    | inl old ↦ inl old
+    | inr now ↦ inr (record {
+      here = sym now;
+      pass = (omega arith, omega arith);
+      seen = λ c it. let bound = low c (in_contained l.seen c it) in omega arith;
+      ahead = λ six. absurd (omega arith);
+    })
+  ]
+  was_alive (read_again p here pass) r v wrote (inr can) = inr (record {
+    here = can.here;
+    pass = (omega arith, omega arith);
+    seen = λ c it. can.seen c (in_push_old c _ l.seen it);
+    ahead = λ six m over within. elim (cases_eq m (suc (length l.seen))) [
+      | inl same ↦ subst (λ i. (own i).lre ≤ r) (sym same) (can.seen (own (suc (length l.seen))) (in_push_new _ l.seen))
+      | inr other ↦
+          let long = length-append l.seen (own (suc (length l.seen)) ∷ []) in
+          can.ahead (grind (arith, common_steps, gets)) m (omega arith) within
+    ];
   })
+  was_alive (write here) r v wrote (inr can) = absurd (not_yet r v wrote here (sym can.here))
+  was_alive (read p here pass) r v wrote (inr can) = absurd (grind (arith, common_steps, gets))
+  was_alive _ r v wrote (inl carried) = inl carried
+  was_alive _ r v wrote (inr can) = let pass = can.pass in absurd (omega arith)
+
+  -- where a round is alive that a row writes in, no process has entered a later one
+  pub new_is_first : (row : Row) (more : ℕ → Cell) (r v : ℕ) → IsIn (r, v) (left row).own_writes → Alive n more (left row) r
+      → IsIn (r, v) l.own_writes ⊎ ((m : ℕ) → IsWithin 1 n m → (more m).lre ≤ r)
+  new_is_first row more r v it alive = grind (arith, common_steps, gets, written_from row r v it, laws.carried_low r)

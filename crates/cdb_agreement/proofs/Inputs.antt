@@ -1,10 +1,9 @@
--- What the input of a step brings: a payload that was sent, or the cell that a register holds. And what a step leaves at each place.
+-- What the input of a step brings: a payload that was sent, or the cell that a register holds. And what the registers show after a step.
 use Rattle.std.proofs.lemmas.Grind.{common_steps}
 use Rattle.std.proofs.lemmas.Option.{gets}
-use Rattle.std.proofs.Common.{◌≡◌, ℕ, zero, suc, List, [], ◌∷◌, Option, Some, None, option_map, unwrap_or, inl, inr, refl, sym, ap, subst, ◌∙◌, arith}
-use Rattle.std.proofs.lemmas.Bool.{cases_eq}
+use Rattle.std.proofs.Common.{◌≡◌, ℕ, zero, suc, List, [], ◌∷◌, Option, Some, None, option_map, unwrap_or, ◌⊎◌, inl, inr, refl, sym, ap, subst, ◌∙◌, arith}
 use Rattle.std.proofs.lemmas.Option.{none-some, same_Some}
-use Rattle.cdb_base.specs.Positions.{nth, set_nth}
+use Rattle.cdb_base.specs.Positions.{nth}
 use Rattle.cdb_base.specs.declared.event.Kind.{Kind}
 use Rattle.cdb_base.specs.declared.event.Kind.TheVariants.{Recv, Read, Write, Crash}
 use Rattle.cdb_base.specs.declared.name.MsgName.{MsgName}
@@ -13,12 +12,14 @@ use Rattle.cdb_message.specs.Mail.{MailState, message_name, payload_of}
 use Rattle.cdb_process.specs.declared.Input.{Input}
 use Rattle.cdb_process.specs.declared.Input.TheVariants as input
 use Rattle.cdb_process.proofs.Members.{IsIn}
-use Rattle.cdb_register.specs.Registers.{register_of}
+use Rattle.cdb_base.specs.declared.register.Cell.{Cell}
+use Rattle.cdb_base.specs.declared.register.Reg.{Reg}
+use Rattle.cdb_register.specs.Registers.{RegisterStates, register_of, with_register, put_cell}
 use Rattle.cdb_register.specs.declared.RegisterState.{RegisterState}
-use Rattle.cdb_rules.specs.InputsTaken.{arriving, input_of}
+use Rattle.cdb_rules.specs.InputsTaken.{arriving, input_of, registers_after}
 use Rattle.cdb_rules.specs.Mail.{mail_of}
 use Rattle.cdb_rules.specs.State.{ProcessState, RunState}
-use Rattle.cdb_rules.proofs.Positions.{nth-map, nth-set_nth_same, nth-set_nth_other}
+use Rattle.cdb_rules.proofs.Positions.{nth-map, nth-update_nth_same, nth-update_nth_other}
 use Rattle.cdb_rules.proofs.Stages.{sight_in}
 use Rattle.cdb_rules.proofs.Taken.{mapped}
 
@@ -55,12 +56,15 @@ module _ {L : Type 0} (t : RunState L) where
   brings p Crash i is = absurd (none-some i is)
   brings p _ i is = subst Brings (same_Some _ i is) tt
 
--- after an item of a list was set: what holds of it, and of each other item that was there, holds of all
-pub each_place : {A : Type 0} (P : ℕ → A → Type 0) (xs : List A) (p : ℕ) (new old : A) → nth xs p ≡ Some old → P p new
-    → ((o : ℕ) (y : A) → (o ≡ p → ⊥) → nth xs o ≡ Some y → P o y) → (o : ℕ) (y : A) → nth (set_nth xs p new) o ≡ Some y → P o y
-each_place P xs p new old at here rests o y is = elim (cases_eq o p) [
-  | inl same ↦
-      let it = same_Some new y (sym (nth-set_nth_same xs p new old at) ∙ subst (λ i. nth (set_nth xs p new) i ≡ Some y) same is) in
-      subst (λ i. P i y) (sym same) (subst (P p) it here)
-  | inr other ↦ rests o y other (sym (nth-set_nth_other xs p o new (λ same. other (sym same))) ∙ is)
-]
+-- what a register shows after a step the step wrote, or it showed it before
+
+written_from : (registers : RegisterStates) (x y : Reg) (cell : Cell) (stands : RegisterState)
+    → register_of (with_register (put_cell cell) registers x) y ≡ Some stands
+    → ((x ≡ y) × (cell ≡ stands.cell)) ⊎ ((x ≡ y → ⊥) × (register_of registers y ≡ Some stands))
+written_from registers x y cell stands is =
+    grind (arith, common_steps, gets, nth-update_nth_same (put_cell cell) registers.of_processes, nth-update_nth_other (put_cell cell) registers.of_processes)
+
+pub shown_from : (registers : RegisterStates) (kind : Kind) (cell : Option Cell) (y : Reg) (stands : RegisterState)
+    → register_of (registers_after registers kind cell) y ≡ Some stands
+    → ((kind ≡ Write y) × (cell ≡ Some stands.cell)) ⊎ ((kind ≡ Write y → cell ≡ None) × (register_of registers y ≡ Some stands))
+shown_from registers kind cell y stands is = grind (arith, common_steps, gets, written_from registers)

@@ -1,154 +1,163 @@
--- What each process of the leader machine keeps to by itself, and agreement from it.
---
--- `sent x` says that a process has sent the payload x, `heard s x` that it has received x from s. Nothing else of a process
--- matters here, and nothing of how the two are kept.
-use Rattle.std.specs.Prelude.{◌≡◌, ℕ, zero, suc, ◌+◌, ◌-◌, ◌<◌, ◌≤◌, Option, Some, None, ◌⊎◌, refl}
-use Rattle.std.proofs.Common.{inl, inr, arith, sym, subst}
+-- Agreement of the leader machine, from what each process has sent and received.
+use Rattle.std.specs.Prelude.{◌≡◌, ℕ, zero, suc, ◌+◌, ◌-◌, ◌<◌, ◌≤◌, List, [], ◌∷◌, ◌++◌, length, Contains, Option, Some, None, ◌⊎◌, refl}
+use Rattle.std.proofs.Common.{inl, inr, arith, sym, subst, ◌∙◌, append_assoc, append-nil}
 use Rattle.std.proofs.lemmas.Bool.{cases_lt}
+use Rattle.std.proofs.lemmas.Option.{same_Some}
 use Rattle.cdb_base.specs.declared.payload.Payload.{Payload}
 use Rattle.cdb_base.specs.declared.payload.Payload.TheVariants.{P1, P2, D}
-use Rattle.cdb_leader.specs.Bases.{AuxBasis, Carried, Voted, LeaveBasis}
+use Rattle.cdb_leader.specs.Bases.{Carried, Voted, LeaveBasis}
+use Rattle.cdb_leader.specs.LocalState.{LocalState, first_state}
 use Rattle.cdb_leader.specs.Quorum.{IsQuorum}
-use Rattle.cdb_agreement.proofs.Quorums.{quorums_meet}
+use Rattle.cdb_leader.specs.Table.{next_state}
+use Rattle.cdb_leader.specs.Trace.{IsHeard, IsFounded, sent_of, sent_along}
+use Rattle.cdb_leader.proofs.Promised.{majorities_meet, sent_messages_are_founded}
+use Rattle.cdb_process.specs.Walk.{state_along}
+use Rattle.cdb_process.specs.declared.Input.{Input}
+use Rattle.cdb_rules.specs.State.{ProcessState, RunState}
+use Rattle.cdb_rules.proofs.Positions.{nth_within}
+use Rattle.cdb_agreement.specs.Rounds.{IsProcess, HasSent, HasReceived, IsDecided, LeaderMessages, LeaderRounds}
 
--- what one process keeps to
-pub record ProcessLaws (q : ℕ) (sent : Payload → Type 0) (heard : ℕ → Payload → Type 0) : Type 0 where
-  pub one_proposal : (r e l f k : ℕ) → sent (P1 r e l) → sent (P1 r f k) → (e ≡ f) × (l ≡ k)
-  pub from_one : (r : ℕ) (a : Option ℕ) → sent (P2 r a) → 1 ≤ r
-  pub one_vote : (r : ℕ) (a b : Option ℕ) → sent (P2 r a) → sent (P2 r b) → a ≡ b
-  pub aux_rests : (r v : ℕ) → sent (P2 r (Some v)) → AuxBasis q heard r v
-  pub entered : (r e l : ℕ) → sent (P1 (suc r) e l) → (r ≡ 0) ⊎ LeaveBasis q sent heard r e
+-- the inputs that a process has taken: whatever more come after them are taken from its local state, and sent after what it has sent
+pub record HasTaken (q : ℕ) (local : LocalState) (sent : List Payload) : Type 0 where
+  pub value : ℕ
+  pub inputs : List Input
+  pub leads : (more : List Input) → state_along next_state (first_state q value) (inputs ++ more) ≡ state_along next_state local more
+  pub sends : (more : List Input) → sent_along (first_state q value) (inputs ++ more) ≡ sent ++ sent_along local more
 
--- a quorum has voted v in the second phase of round r
-abbrev pub Chosen : ℕ → (ℕ → Payload → Type 0) → ℕ → ℕ → Type 0
-Chosen q sent r v = IsQuorum q (λ s. sent s (P2 r (Some v)))
+pub first_taken : (q value : ℕ) → HasTaken q (first_state q value) []
+first_taken q value = record { value = value; inputs = []; leads = λ more. refl; sends = λ more. refl }
 
--- what all processes keep to together
-pub record JointLaws (n q : ℕ) (sent : ℕ → Payload → Type 0) (heard : ℕ → ℕ → Payload → Type 0) : Type 0 where
-  pub each : (p : ℕ) → ProcessLaws q (sent p) (heard p)
-  pub members : (p : ℕ) (x : Payload) → sent p x → p ≤ n
-  pub delivered : (p s : ℕ) (x : Payload) → heard p s x → sent s x
-  pub decided : (p v : ℕ) → sent p (D v) → (r : ℕ) × Chosen q sent r v
+module _ (q : ℕ) (local : LocalState) (sent : List Payload) (has : HasTaken q local sent) where
+  pub takes_on : (i : Input) (next : LocalState) → next_state local i ≡ Some next → HasTaken q next (sent ++ sent_of local i)
+  takes_on i next taken = record {
+    value = has.value;
+    inputs = has.inputs ++ i ∷ [];
+    leads = λ more. rw (append_assoc has.inputs (i ∷ []) more, has.leads (i ∷ more), taken) refl;
+    sends = λ more. rw (append_assoc has.inputs (i ∷ []) more, has.sends (i ∷ more), taken) (sym (append_assoc sent (sent_of local i) (sent_along next more)));
+  }
 
-module _ (n q : ℕ) (small : n ≤ 9) (majority : n < q + q)
-    (sent : ℕ → Payload → Type 0) (heard : ℕ → ℕ → Payload → Type 0) (laws : JointLaws n q sent heard) where
-  -- two quorums of senders share one
-  share : (P R : ℕ → Type 0) → ((s : ℕ) → P s → (x : Payload) × sent s x) → ((s : ℕ) → R s → (x : Payload) × sent s x)
-      → IsQuorum q P → IsQuorum q R → (s : ℕ) × P s × R s
-  share P R P_sent R_sent =
-      quorums_meet n q P R small majority
-      (λ s it. let by = P_sent s it in laws.members s by.0 by.1) (λ s it. let by = R_sent s it in laws.members s by.0 by.1)
+  -- what the machine promises of the inputs holds of what the process has sent
+  pub sent_founded : IsFounded q local sent
+  sent_founded =
+      let promised = sent_messages_are_founded q has.value (has.inputs ++ []) in
+      subst (λ s. IsFounded q s sent) (has.leads []) (subst (IsFounded q _) (has.sends [] ∙ append-nil sent) promised)
 
-  -- all aux values of a round are equal
-  pub one_aux : (r p v o w : ℕ) → sent p (P2 r (Some v)) → sent o (P2 r (Some w)) → v ≡ w
-  one_aux r p v o w mine other = go ((laws.each p).aux_rests r v mine) ((laws.each o).aux_rests r w other)
-    where
-      named : (i m s : ℕ) → ((e : ℕ) × heard i s (P1 r e m)) → (x : Payload) × sent s x
-      named i m s it = (P1 r it.0 m, laws.delivered i s (P1 r it.0 m) it.1)
+-- what every state of a valid history keeps to, where a quorum is q processes
+pub record Lawful (q : ℕ) (t : RunState LocalState) : Type 0 where
+  pub taken : (p : ℕ) (x : ProcessState LocalState) → IsProcess t p x → HasTaken q x.progress.local x.sent
+  pub received : (p s : ℕ) (y : Payload) → HasReceived t p s y → HasSent t s y
+  pub decided : (p v : ℕ) → HasSent t p (D v) → (r : ℕ) × IsDecided q t r v
 
-      go : AuxBasis q (heard p) r v → AuxBasis q (heard o) r w → v ≡ w
-      go a b =
-          let A : ℕ → Type 0 = λ s. (e : ℕ) × heard p s (P1 r e a.leader) in
-          let B : ℕ → Type 0 = λ s. (e : ℕ) × heard o s (P1 r e b.leader) in
-          let shared = share A B (named p a.leader) (named o b.leader) a.quorum b.quorum in
-          let s : ℕ = shared.0 in
-          let same : a.leader ≡ b.leader =
-          ((laws.each s).one_proposal r shared.1.0 a.leader shared.2.0 b.leader
-          (laws.delivered p s (P1 r shared.1.0 a.leader) shared.1.1) (laws.delivered o s (P1 r shared.2.0 b.leader) shared.2.1)).1 in
-          let here : sent a.leader (P1 r v a.named) = laws.delivered p a.leader (P1 r v a.named) a.estimate in
-          let there : sent b.leader (P1 r w b.named) = laws.delivered o b.leader (P1 r w b.named) b.estimate in
-          let P : ℕ → Type 0 = λ m. sent m (P1 r w b.named) in
-          ((laws.each a.leader).one_proposal r v a.named w b.named here (subst P (sym same) there)).0
+module _ (q : ℕ) (t : RunState LocalState) (lawful : Lawful q t) where
+  founded : (p : ℕ) (x : ProcessState LocalState) → IsProcess t p x → IsFounded q x.progress.local x.sent
+  founded p x at = sent_founded q x.progress.local x.sent (lawful.taken p x at)
 
-  was_sent : (r v s : ℕ) → sent s (P2 r (Some v)) → (x : Payload) × sent s x
-  was_sent r v s it = (P2 r (Some v), it)
+  -- what a process that stands so has sent
+  sent_by : (p : ℕ) (x : ProcessState LocalState) (y : Payload) → IsProcess t p x → HasSent t p y → Contains x.sent y
+  sent_by p x y at (process, there, has) = rw (same_Some x process (sym at ∙ there)) has
 
-  -- what a quorum has voted in round r, whoever leaves round r takes along
-  pub taken_along : (r v p e : ℕ) → Chosen q sent r v → LeaveBasis q (sent p) (heard p) r e → e ≡ v
-  taken_along r v p e chosen leave = by_vote shared.2.0 shared.2.1 shared.2.2
-    where
-      shared : (s : ℕ) × sent s (P2 r (Some v)) × Voted (heard p) r e s
-      shared =
-          share (λ s. sent s (P2 r (Some v))) (Voted (heard p) r e) (was_sent r v) (λ s it. (P2 r it.0, laws.delivered p s (P2 r it.0) it.1))
-          chosen leave.quorum
+  heard : (p : ℕ) (x : ProcessState LocalState) → IsProcess t p x → {s : ℕ} (y : Payload) → IsHeard x.progress.local.inbox s y → HasSent t s y
+  heard p x at {s = s} y it = lawful.received p s y (x, at, it)
 
-      by_vote : (a : Option ℕ) → heard p shared.0 (P2 r a) → (a ≡ None) ⊎ Carried (heard p) r e → e ≡ v
-      by_vote a here (inr carried) = one_aux r carried.0 e shared.0 v (laws.delivered p carried.0 (P2 r (Some e)) carried.1) shared.1
-      by_vote a here (inl none) =
-          let same : a ≡ Some v = (laws.each shared.0).one_vote r a (Some v) (laws.delivered p shared.0 (P2 r a) here) shared.1 in
-          cc
+  pub messages : LeaderMessages q t
+  messages = record {
+    one_estimate = λ p r e f k l (x, at, one) other. (founded p x at).one_proposal r e f k l one (sent_by p x (P1 r f l) at other);
+    one_vote = λ p r a b (x, at, one) other. (founded p x at).one_vote r a b one (sent_by p x (P2 r b) at other);
+    received = lawful.received;
+    decided = lawful.decided;
+    learnt = λ p s v it. lawful.decided s v (lawful.received p s (D v) it);
+  }
 
-  -- some process voted what was chosen
-  pub voted : (r v : ℕ) → Chosen q sent r v → (s : ℕ) × sent s (P2 r (Some v))
-  voted r v chosen =
-      let P : ℕ → Type 0 = λ s. sent s (P2 r (Some v)) in
-      let shared = share P P (was_sent r v) (was_sent r v) chosen chosen in
-      (shared.0, shared.1)
+  module _ (small : length t.processes ≤ 9) (majority : length t.processes < q + q) where
+    -- two quorums of senders share one
+    share : (P R : ℕ → Type 0) → ((s : ℕ) → P s → (y : Payload) × HasSent t s y) → ((s : ℕ) → R s → (y : Payload) × HasSent t s y)
+        → IsQuorum q P → IsQuorum q R → (s : ℕ) × P s × R s
+    share P R P_sent R_sent one other =
+        let both = majorities_meet (length t.processes) q one.0 other.0 small (omega arith)
+        (λ s low high passes. within (P_sent s (one.2 s low high passes)))
+        (λ s low high passes. within (R_sent s (other.2 s low high passes))) one.1 other.1 in
+        let high : both.0 ≤ 9 = omega (arith, both.2) in
+        (both.0, one.2 both.0 both.1 high both.3, other.2 both.0 both.1 high both.4)
+      where
+        within : {s : ℕ} → (y : Payload) × HasSent t s y → s ≤ length t.processes
+        within {s = s} (y, (x, at, has)) = nth_within t.processes s x at
 
-  -- a voted value was the estimate of a leader in that round
-  pub was_proposed : (r v p : ℕ) → sent p (P2 r (Some v)) → (o : ℕ) × (l : ℕ) × sent o (P1 r v l)
-  was_proposed r v p here =
-      let basis = (laws.each p).aux_rests r v here in
-      (basis.leader, basis.named, laws.delivered p basis.leader (P1 r v basis.named) basis.estimate)
+    -- in a round all votes with a value have one value
+    one_value : (r p o v w : ℕ) → HasSent t p (P2 r (Some v)) → HasSent t o (P2 r (Some w)) → v ≡ w
+    one_value r p o v w (x, at, mine) (z, there, other) =
+        let a = (founded p x at).vote r v mine in
+        let b = (founded o z there).vote r w other in
+        let (s, one, two) =
+        share (λ s. (e : ℕ) × IsHeard x.progress.local.inbox s (P1 r e a.leader)) (λ s. (e : ℕ) × IsHeard z.progress.local.inbox s (P1 r e b.leader))
+        (λ s it. (P1 r it.0 a.leader, heard p x at _ it.1)) (λ s it. (P1 r it.0 b.leader, heard o z there _ it.1)) a.quorum b.quorum in
+        let same : a.leader ≡ b.leader = (messages.one_estimate s r one.0 two.0 a.leader b.leader (heard p x at _ one.1) (heard o z there _ two.1)).1 in
+        (messages.one_estimate a.leader r v w a.named b.named (heard p x at _ a.estimate) (rw same (heard o z there _ b.estimate))).0
 
-  -- whatever is proposed after a round in which v was chosen is v
-  pub locked : (r v : ℕ) → Chosen q sent r v → (d u p e l : ℕ) → u ≡ r + d → sent p (P1 (suc u) e l) → e ≡ v
-  locked r v chosen zero u p e l at here = go ((laws.each p).entered u e l here)
-    where
-      go : (u ≡ 0) ⊎ LeaveBasis q (sent p) (heard p) u e → e ≡ v
-      go (inl first) =
-          let some_vote = voted r v chosen in
-          let positive = (laws.each some_vote.0).from_one r (Some v) some_vote.1 in
-          absurd (omega arith)
-      go (inr leave) =
-          let same : u ≡ r = omega arith in
-          let P : ℕ → Type 0 = λ t. LeaveBasis q (sent p) (heard p) t e in
-          taken_along r v p e chosen (subst P same leave)
-  locked r v chosen (suc d) u p e l at here = go ((laws.each p).entered u e l here) (locked r v chosen d (r + d))
-    where
-      before : u ≡ suc (r + d)
-      before = omega arith
+    -- what a quorum has voted in round r, whoever leaves round r takes along
+    taken_along : (r v p : ℕ) (x : ProcessState LocalState) (e : ℕ) → IsProcess t p x → IsDecided q t r v
+        → LeaveBasis q (Contains x.sent) (IsHeard x.progress.local.inbox) r e → e ≡ v
+    taken_along r v p x e at decided leave = by_vote shared.2.0 shared.2.1 shared.2.2
+      where
+        shared : (s : ℕ) × HasSent t s (P2 r (Some v)) × Voted (IsHeard x.progress.local.inbox) r e s
+        shared =
+            share (λ s. HasSent t s (P2 r (Some v))) (Voted (IsHeard x.progress.local.inbox) r e)
+            (λ s it. (P2 r (Some v), it)) (λ s it. (P2 r it.0, heard p x at _ it.1)) decided leave.quorum
 
-      go : (u ≡ 0) ⊎ LeaveBasis q (sent p) (heard p) u e
-          → ((o f k : ℕ) → r + d ≡ r + d → sent o (P1 (suc (r + d)) f k) → f ≡ v)
-          → e ≡ v
-      go (inl first) earlier = absurd (omega arith)
-      go (inr leave) earlier = by_value leave.value
-        where
-          proposed : (o k : ℕ) → sent o (P1 u e k) → e ≡ v
-          proposed o k there =
-              let P : ℕ → Type 0 = λ t. sent o (P1 t e k) in
-              earlier o e k refl (subst P before there)
+        by_vote : (a : Option ℕ) → IsHeard x.progress.local.inbox shared.0 (P2 r a) → (a ≡ None) ⊎ Carried (IsHeard x.progress.local.inbox) r e → e ≡ v
+        by_vote a it (inr carried) = one_value r carried.0 shared.0 e v (heard p x at _ carried.1) shared.1
+        by_vote a it (inl none) = let same = messages.one_vote shared.0 r a (Some v) (heard p x at _ it) shared.1 in cc
 
-          by_value : Carried (heard p) u e ⊎ ((k : ℕ) × sent p (P1 u e k)) → e ≡ v
-          by_value (inl carried) =
-              let proposal = was_proposed u e carried.0 (laws.delivered p carried.0 (P2 u (Some e)) carried.1) in
-              proposed proposal.0 proposal.1 proposal.2
-          by_value (inr own) = proposed p own.0 own.1
+    -- a vote with a value is for what a leader estimated in that round, and rounds begin at 1
+    was_estimate : (r v p : ℕ) → HasSent t p (P2 r (Some v)) → (1 ≤ r) × ((o l : ℕ) × HasSent t o (P1 r v l))
+    was_estimate r v p (x, at, mine) =
+        let founded = founded p x at in
+        let basis = founded.vote r v mine in
+        (founded.from_one r (Some v) mine, (basis.leader, basis.named, heard p x at _ basis.estimate))
 
-  -- what is chosen in a later round is what was chosen in an earlier one
-  pub chosen_later : (r v t w d : ℕ) → t ≡ suc (r + d) → Chosen q sent r v → Chosen q sent t w → w ≡ v
-  chosen_later r v t w d later one other =
-      let some_vote = voted t w other in
-      let proposal = was_proposed t w some_vote.0 some_vote.1 in
-      let P : ℕ → Type 0 = λ x. sent proposal.0 (P1 x w proposal.1) in
-      locked r v one d (r + d) proposal.0 w proposal.1 refl (subst P later proposal.2)
+    -- some process voted what was decided
+    voted : (r v : ℕ) → IsDecided q t r v → (s : ℕ) × HasSent t s (P2 r (Some v))
+    voted r v decided =
+        let shared = share (λ s. HasSent t s (P2 r (Some v))) (λ s. HasSent t s (P2 r (Some v)))
+        (λ s it. (P2 r (Some v), it)) (λ s it. (P2 r (Some v), it)) decided decided in
+        (shared.0, shared.1)
 
-  pub one_chosen : (r v t w : ℕ) → Chosen q sent r v → Chosen q sent t w → v ≡ w
-  one_chosen r v t w one other = go (cases_lt r t) (cases_lt t r)
-    where
-      go : (r < t) ⊎ (t ≤ r) → (t < r) ⊎ (r ≤ t) → v ≡ w
-      go (inl later) any = sym (chosen_later r v t w (t - suc r) (omega arith) one other)
-      go (inr late) (inl earlier) = chosen_later t w r v (r - suc t) (omega arith) other one
-      go (inr late) (inr early) =
-          let a = voted r v one in
-          let b = voted t w other in
-          let same : t ≡ r = omega arith in
-          one_aux r a.0 v b.0 w a.1 (subst (λ x. sent b.0 (P2 x (Some w))) same b.1)
+    -- what is decided in a round is the estimate that is sent in each later round
+    locked : (r v : ℕ) → IsDecided q t r v → (d u p e k : ℕ) → u ≡ suc (r + d) → HasSent t p (P1 u e k) → e ≡ v
+    locked r v decided zero u p e k later (x, at, sent) = elim ((founded p x at).estimate (r + 0) e k (rw later at sent)) [
+      | inl first ↦ let some_vote = voted r v decided in let low = (was_estimate r v some_vote.0 some_vote.1).0 in absurd (omega arith)
+      | inr leave ↦ let same : r + 0 ≡ r = omega arith in taken_along r v p x e at decided (rw same at leave)
+    ]
+    locked r v decided (suc d) u p e k later (x, at, sent) = elim ((founded p x at).estimate (r + suc d) e k (rw later at sent)) [
+      | inl first ↦ absurd (omega arith)
+      | inr leave ↦ elim leave.value [
+        | inl carried ↦
+            let was = (was_estimate (r + suc d) e carried.0 (heard p x at _ carried.1)).1 in
+            locked r v decided d (r + suc d) was.0 e was.1 (omega arith) was.2
+        | inr own ↦ locked r v decided d (r + suc d) p e own.0 (omega arith) (x, at, own.1)
+      ]
+    ]
 
-  -- no two decision messages differ
-  pub decisions_agree : (p v o w : ℕ) → sent p (D v) → sent o (D w) → v ≡ w
-  decisions_agree p v o w mine other =
-      let a = laws.decided p v mine in
-      let b = laws.decided o w other in
-      one_chosen a.0 v b.0 w a.1 b.1
+    -- what is decided in a later round, or the same, is one value
+    decided_later : (r v u w : ℕ) → IsDecided q t r v → IsDecided q t u w → r ≤ u → w ≡ v
+    decided_later r v u w one other from =
+        let vote = voted u w other in
+        elim (cases_lt r u) [
+          | inl later ↦ let was = (was_estimate u w vote.0 vote.1).1 in locked r v one (u - suc r) u was.0 w was.1 (omega arith) was.2
+          | inr late ↦
+              let same : r ≡ u = omega arith in
+              let first = voted r v one in
+              one_value u vote.0 first.0 w v vote.1 (subst (λ m. HasSent t first.0 (P2 m (Some v))) same first.1)
+        ]
+
+    one_decided : (r v u w : ℕ) → IsDecided q t r v → IsDecided q t u w → v ≡ w
+    one_decided r v u w one other = elim (cases_lt r u) [
+      | inl later ↦ sym (decided_later r v u w one other (omega arith))
+      | inr late ↦ decided_later u w r v other one late
+    ]
+
+    pub rounds : LeaderRounds q t
+    rounds = record {
+      one_value = one_value;
+      taken_along = λ r v d p e k decided sent. locked r v decided d (suc (r + d)) p e k refl sent;
+      one_decided = one_decided;
+    }

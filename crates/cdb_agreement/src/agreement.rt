@@ -49,6 +49,7 @@ pub fn shown_decisions_are_proposed()
 /// By either algorithm a process alone decides its input: the laws above are about decisions that are
 /// reached. Where a quorum is not more than half of the processes, two processes of the leader-based
 /// algorithm decide two values.
+#[tactic(auto, using(crate::proofs::Worked::leader, crate::proofs::Worked::two_values, crate::proofs::Worked::alpha))]
 pub fn worked_runs()
     ensures leader { leader_decisions (7 ∷ []) (leader_steps 1) ≡ Some ((1, 7) ∷ []) }
     ensures two_values { leader_decisions (5 ∷ 6 ∷ []) (leader_steps 1 ++ leader_steps 2)
@@ -60,6 +61,7 @@ pub fn worked_runs()
 /// each phase a round, what was received was sent, and what is sent or learnt as a decision a quorum voted in one
 /// round. Where a quorum is a majority the votes of a round have one value, and what is decided in it is the estimate
 /// of all later rounds.
+#[tactic(auto, using(crate::proofs::LeaderHistories::leader_messages, crate::proofs::LeaderHistories::leader_rounds))]
 pub fn leader_rounds()
     ensures messages { (setup : Parts) →
         InReached (leader_machine setup) (LeaderMessages setup.quorum) }
@@ -70,6 +72,7 @@ pub fn leader_rounds()
 /// In each state that a valid history of Alpha reaches, register i is written by process i alone and shows what it
 /// wrote last, no round in it ever falls, rounds are of one process, whoever settles a value has read every register in
 /// its round, and what is decided is what every write of a later round wrote.
+#[tactic(auto, using(crate::proofs::AlphaHistories::alpha_rounds))]
 pub fn alpha_rounds()
     ensures { ForSetups (λ setup. InReached (alpha_machine setup)
         (AlphaRounds (alpha_machine setup) setup.processes)) }

@@ -48,6 +48,7 @@ pub fn exchanged_histories<L>()
 
 /// A free event may be undone. What remains is valid, the event is enabled there, and taking it
 /// again leads back to the state that the history reached.
+#[tactic(auto, using(cdb_rules::proofs::Histories::undo_valid, cdb_rules::proofs::Histories::undo_again))]
 pub fn undo<L>()
     ensures valid { ForFree L (λ machine history event left. IsValid machine left) }
     ensures enabled { ForFree L (λ machine history event left.
@@ -76,7 +77,7 @@ pub fn granted_undo<L>()
 
 /// An event may be removed with its consequences. What remains is valid, and what was removed,
 /// taken again in order, leads to the state that the history reached.
-#[tactic(auto, using(cdb_rules::proofs::Histories::rollback_redo))]
+#[tactic(auto, using(cdb_rules::proofs::Histories::rollback_redo, cdb_rules::proofs::Histories::rollback_valid))]
 pub fn rollback<L>()
     ensures valid { InValid L (λ machine history. (at : ℕ) →
         IsValid machine (remaining depends history at)) }
@@ -144,6 +145,7 @@ pub fn losses<L>()
 {}
 
 /// Histories that reach the same state are equal up to exchange.
+#[tactic(auto, using(cdb_rules::proofs::SameState::same_state_exchanged))]
 pub fn same_state_exchanged<L>()
     ensures { ForTwo L (λ machine one other.
         ReachOneState machine one other → IsExchanged depends one other) }
