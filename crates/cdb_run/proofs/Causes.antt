@@ -1,12 +1,12 @@
 -- The direct causes of an event, sought by process, are those that are looked for in the history.
 use Rattle.std.proofs.lemmas.Grind.{common_steps}
 use Rattle.std.proofs.lemmas.Option.{gets}
-use Rattle.std.proofs.Common.{◌≡◌, ℕ, zero, suc, ◌+◌, ◌<◌, ◌≤◌, true, not, ◌&&◌, ◌==◌, inl, inr, ⊎_elim, List, [], ◌∷◌, ◌++◌, Some, length, take}
-use Rattle.std.proofs.Common.{slice_index_or, ◌-◌, drop, map, filter, slice_get, if◌then◌else◌, refl, sym, ap, ap₂, ◌∙◌, subst, true≢false, arith}
+use Rattle.std.proofs.Common.{◌≡◌, ℕ, zero, suc, ◌+◌, ◌<◌, ◌≤◌, true, ◌&&◌, ◌==◌, inl, inr, ⊎_elim, List, [], ◌∷◌, ◌++◌, Some, length, take}
+use Rattle.std.proofs.Common.{slice_index_or, ◌-◌, drop, map, filter, slice_get, refl, sym, ap, ap₂, ◌∙◌, subst, arith}
 use Rattle.std.proofs.lemmas.Bool.{cases_Bool}
 use Rattle.std.proofs.lemmas.Bool.Decides.{nat_tests}
 use Rattle.std.proofs.lemmas.Option.{none-some, same_Some}
-use Rattle.std.specs.List.{list_any, flat_map}
+use Rattle.std.specs.List.{flat_map}
 use Rattle.cdb_base.specs.Event.{event_name, is_step_of}
 use Rattle.cdb_base.specs.Positions.{nth}
 use Rattle.cdb_base.specs.Processes.{all_processes}
@@ -21,15 +21,13 @@ use Rattle.cdb_causal.specs.Causality.{IsLink, IsDirectCause}
 use Rattle.cdb_causal.specs.Rollback.{events_before}
 use Rattle.cdb_causal.proofs.DirectByList.{direct_by_list}
 use Rattle.cdb_causal.proofs.Lists.{nth_within}
+use Rattle.cdb_causal.proofs.Walks.{link_at}
 use Rattle.cdb_rules.specs.State.{Machine}
 use Rattle.cdb_rules.specs.Step.{IsValid}
 use Rattle.cdb_rules.specs.Undo.{direct_among}
-use Rattle.cdb_rules.proofs.Kept.{is_false}
 use Rattle.cdb_rules.proofs.ListMembers.{nothing_in, position_in, in_filter, from_filter, filter_none, any_none, length_up_to, in_map}
 use Rattle.cdb_rules.proofs.ListMembers.{from_map, in_flat, from_flat}
-use Rattle.cdb_rules.proofs.Mails.{not_true}
 use Rattle.cdb_rules.proofs.NamedEvents.{in_cases, in_position, of_processes, loss_free}
-use Rattle.cdb_rules.proofs.Taken.{both}
 
 -- Two rows of names with the same members, both in order, are one.
 
@@ -81,10 +79,7 @@ module _ (effect : Event) where
       → IsIn cause (direct_among earlier effect)
   direct_in earlier zero cause stands direct = absurd (none-some cause stands)
   direct_in [] (suc i) cause stands direct = absurd (none-some cause stands)
-  direct_in (x ∷ xs) (suc zero) cause stands direct =
-      let same = same_Some x cause stands in
-      subst (λ b. IsIn cause (if b then x ∷ direct_among xs effect else direct_among xs effect)) (sym (ap (λ y. is_direct depends y xs effect) same ∙ direct))
-      (subst (λ y. IsIn cause (y ∷ direct_among xs effect)) (sym same) here)
+  direct_in (x ∷ xs) (suc zero) cause stands direct = rw (same_Some x cause stands, direct) here
   direct_in (x ∷ xs) (suc (suc i)) cause stands direct =
       let rest = direct_in xs (suc i) cause stands direct in
       elim (cases_Bool (is_direct depends x xs effect)) [ inl e ↦ rw e (there rest) | inr e ↦ rw e rest ]
@@ -111,13 +106,9 @@ module _ (effect : Event) where
       filter_none (is_step_of p) (direct_among between effect)
       (λ other i.
       let d = in_direct between other i in
-      let linked = (both (depends other effect) (not (list_any (λ x. depends other x && depends x effect) (drop (suc d.0) between))) d.2).0 in
-      let none = not_true (list_any (λ x. depends cause x && depends x effect) between)
-      (both (depends cause effect) (not (list_any (λ x. depends cause x && depends x effect) between)) direct).1 in
-      is_false (is_step_of p other)
-      (λ of_p_too. true≢false
-      (sym (ap₂ (λ a b. a && b) (same_process_depends p cause other of_p of_p_too) linked)
-      ∙ any_none (λ x. depends cause x && depends x effect) between none other (in_position between (suc d.0) other d.1))))
+      let among = in_position between (suc d.0) other d.1 in
+      let same = same_process_depends p cause other of_p in
+      grind (arith, common_steps, any_none (λ x. depends cause x && depends x effect) between))
 
   one_of_process : (p : ℕ) (earlier : List Event) → IsShort (filter (is_step_of p) (direct_among earlier effect))
   one_of_process p [] = tt
@@ -192,11 +183,8 @@ unfolding all_processes
 process_at p low high = grind arith
 
 is_process : (p : ℕ) → 1 ≤ p → p ≤ 9 → IsIn p all_processes
-is_process p low high =
-    in_position all_processes (p - 1 + 1) p (process_there (p - 1) p (let nine = all_nine in omega (arith, low, high, nine)) (process_at p low high))
-  where
-    process_there : (i p : ℕ) → i < length all_processes → slice_index_or all_processes i 0 ≡ p → nth all_processes (i + 1) ≡ Some p
-    process_there i p within is = grind (arith, common_steps, gets)
+unfolding all_processes
+is_process p low high = let at : nth all_processes p ≡ Some p = grind (arith, gets) in in_position all_processes p p at
 
 -- Direct causes in a list and in its front.
 
@@ -204,14 +192,7 @@ module _ (one other : List Event) (j : ℕ) (agree : (k : ℕ) → k ≤ j → n
   link_along : (i k : ℕ) → k ≤ j → IsLink depends one i k → IsLink depends other i k
   link_along i k last l =
       let later = l.later in
-      record {
-        cause = l.cause;
-        effect = l.effect;
-        later = later;
-        at_cause = sym (agree i (omega (arith, later, last))) ∙ l.at_cause;
-        at_effect = sym (agree k last) ∙ l.at_effect;
-        linked = l.linked;
-      }
+      link_at depends other i k l.cause l.effect (sym (agree i (omega (arith, later, last))) ∙ l.at_cause) (sym (agree k last) ∙ l.at_effect) later l.linked
 
 direct_along : (one other : List Event) (j : ℕ) → ((k : ℕ) → k ≤ j → nth one k ≡ nth other k) → (i : ℕ) → IsDirectCause depends one i j
     → IsDirectCause depends other i j

@@ -120,9 +120,7 @@ module _ {L : Type 0} (table : Table L) (run : RunView) (proper : IsProper table
         left_is = rw leaves (λ j. record { setup = same j; history = left.history })
 
         back : LeadsTo table left taken run
-        back =
-            subst (λ (v : RunView). LeadsTo table v taken run) (sym left_is)
-            (undo_leads_back machine n (machine_each table run.setup proper.ranges) history proper.in_order name (Ok taken) returned)
+        back = rw left_is (undo_leads_back machine n (machine_each table run.setup proper.ranges) history proper.in_order name (Ok taken) returned)
 
         pub undo_done : IsUndone name taken left
         undo_done =
@@ -139,9 +137,9 @@ module _ {L : Type 0} (table : Table L) (run : RunView) (proper : IsProper table
 -- what a rollback leaves, granted or not, is left by exactly the event and its consequences, and these lead back
 module _ (run left : RunView) (name : StepId) (after : left ≡ after_rollback run name) where
   pub left_exact : IsExactRollback run name left
-  left_exact = subst (λ v. IsExactRollback run name v) (sym after) (exact_rollback run name)
+  left_exact = rw after (exact_rollback run name)
 
   pub leads_back : {L : Type 0} (table : Table L) → IsProper table run → RollbackLeadsBack table run name left
   leads_back table proper =
-      subst (λ v. RollbackLeadsBack table run name v) (sym after)
+      rw after
       (rollback_leads_back (machine_of table run.setup) run.setup.processes (machine_each table run.setup proper.ranges) run.history proper.in_order name)

@@ -12,6 +12,7 @@ use Rattle.cdb_message.specs.Mail.{MailState, first_mail}
 use Rattle.cdb_register.specs.Registers.{fresh_registers}
 use Rattle.cdb_process.specs.Table.{Table}
 use Rattle.cdb_rules.specs.Machines.{machine_of}
+use Rattle.cdb_rules.specs.RunView.{RunView}
 use Rattle.cdb_rules.specs.State.{Machine, ProcessState, RunState, start, fresh_process, fresh_progress}
 use Rattle.cdb_rules.specs.Step.{after, fold, state_of}
 use Rattle.cdb_rules.proofs.Bounds.{IsSound, event_sound, start_sound}
@@ -31,6 +32,10 @@ stands_at xs zero first last = absurd (omega (arith, first))
 stands_at [] (suc i) first last = absurd (omega (arith, last))
 stands_at (x ∷ xs) (suc zero) first last = (x, refl)
 stands_at (x ∷ xs) (suc (suc i)) first last = stands_at xs (suc i) (omega arith) (omega (arith, last))
+
+-- what a contract sees of a run that holds these
+abbrev pub view : {B : Type 0} → Parts → List (Recorded B) → RunView
+view setup entries = record { setup = setup; history = events_of entries }
 
 -- each process of the setup has its machine
 module _ {L : Type 0} (table : Table L) (setup : Parts) (ranges : AreInRange setup) where
@@ -88,7 +93,7 @@ module _ {L B : Type 0} {machine : Machine L} {before : L → B → L} {held : H
   unchanged new_is same_is =
       record {
         state = current.state;
-        led = subst (λ l. IsPath (IsRecorded machine before) (start machine) l current.state) (sym same_is) current.led;
+        led = rw same_is current.led;
         holds = new_is ∙ current.holds;
       }
 
@@ -99,7 +104,7 @@ module _ {L B : Type 0} {machine : Machine L} {before : L → B → L} {held : H
       record {
         state = to;
         led =
-            subst (λ l. IsPath (IsRecorded machine before) (start machine) l to) (sym longer_is)
+            rw longer_is
             (path_push (IsRecorded machine before) (start machine) current.state to entries (recorded_of event left) current.led leads);
         holds = new_is;
       }

@@ -5,7 +5,6 @@ pub mod Held
 pub mod Records
 pub mod Steps
 pub mod Views
-pub mod FirstStep
 -- which events are found
 pub mod Causes
 pub mod Found

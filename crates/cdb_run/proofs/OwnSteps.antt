@@ -1,21 +1,22 @@
 -- The steps of a process, each with the writes that it meets, by their names.
 use Rattle.std.proofs.lemmas.Grind.{common_steps}
 use Rattle.std.proofs.lemmas.Option.{gets}
-use Rattle.std.proofs.Common.{◌≡◌, ℕ, zero, suc, ◌+◌, ◌<◌, Bool, true, false, cond, List, [], ◌∷◌, length}
-use Rattle.std.proofs.Common.{take, map, filter, slice_get, Option, Some, None, refl, sym, ap, ap₂, ◌∙◌, eq-eqb, arith}
-use Rattle.std.proofs.lemmas.List.{length-map}
+use Rattle.std.proofs.Common.{◌≡◌, ℕ, zero, suc, ◌+◌, ◌<◌, Bool, true, cond, List, [], ◌∷◌, length}
+use Rattle.std.proofs.Common.{take, map, filter, slice_get, Option, Some, None, unwrap_or, refl, sym, ap, ◌∙◌, subst, eq-eqb, arith}
+use Rattle.std.proofs.lemmas.List.{length-map, same_lists}
 use Rattle.std.proofs.lemmas.List.Sums.{sum_by-cons}
-use Rattle.std.proofs.lemmas.Option.{none-some, same_Some}
+use Rattle.std.proofs.lemmas.Option.{none-some, same_Some, unwrap_or-slice_get}
 use Rattle.std.specs.List.{count_by}
 use Rattle.cdb_base.specs.Event.{event_name, is_step_of}
 use Rattle.cdb_base.specs.Positions.{nth}
 use Rattle.cdb_base.specs.declared.event.Event.{Event}
 use Rattle.cdb_base.specs.declared.event.Event.TheVariants.{Step, Lost}
 use Rattle.cdb_base.specs.declared.register.Reg.{Reg}
+use Rattle.cdb_causal.specs.Exchange.{IsIn, here, there}
 use Rattle.cdb_causal.specs.Names.{IsNewName}
 use Rattle.cdb_rules.specs.OwnSteps.{no_writes, writes_with, writes_met, as_own_events, own_steps}
 use Rattle.cdb_rules.specs.Runs.{step_name}
-use Rattle.cdb_rules.proofs.ListMembers.{from_filter, position_in}
+use Rattle.cdb_rules.proofs.ListMembers.{from_filter, in_filter, position_in}
 use Rattle.cdb_rules.proofs.NamedEvents.{in_position}
 use Rattle.cdb_rules.specs.declared.own_event.OwnEvent.{OwnEvent}
 use Rattle.cdb_standing.specs.Comparisons.{steps_by, AreNumbered, is_write_of, writes_before}
@@ -31,43 +32,34 @@ met_same writes others same event = grind (arith, common_steps, gets)
 one_with : (writes : Reg → ℕ) (event : Event) (register : Reg) → writes_with writes event register ≡ writes register + cond (is_write_of register event) 1 0
 one_with writes event register = grind (arith, common_steps, gets)
 
+abbrev own_with : (Reg → ℕ) → Event → OwnEvent
+own_with writes event = record { event = event; writes_before = writes_met writes event }
+
+-- each event is among those with the writes that they meet, where that many stand before it
+module _ (before : Reg → ℕ) (event : Event) where
+  met_in : (writes : Reg → ℕ) (events : List Event) (i : ℕ)
+      → ((register : Reg) → before register ≡ writes register + count_by (is_write_of register) (take i events)) → slice_get events i ≡ Some event
+      → IsIn (own_with before event) (as_own_events writes events)
+  met_in writes [] i is at = absurd (none-some event at)
+  met_in writes (x ∷ xs) zero is at =
+      let met = met_same writes before (λ register. let all : before register ≡ writes register + 0 = is register in omega (arith, all)) event in
+      subst (λ own. IsIn own (as_own_events writes (x ∷ xs)))
+      (ap (own_with writes) (same_Some x event at) ∙ ap (λ o. let own : OwnEvent = record { event = event; writes_before = o } in own) met) here
+  met_in writes (x ∷ xs) (suc i) is at =
+      there (met_in (writes_with writes x) xs i
+      (λ register.
+      let all : before register ≡ writes register + count_by (is_write_of register) (x ∷ take i xs) = is register in
+      let one = one_with writes x register in
+      let more = sum_by-cons (λ e. cond (is_write_of register e) 1 0) x (take i xs) in
+      omega (arith, all, one, more))
+      at)
+
 module _ (p : ℕ) where
   abbrev is_its : OwnEvent → Bool
   is_its own = is_step_of p own.event
 
   abbrev own_behind : (Reg → ℕ) → List Event → List OwnEvent
   own_behind writes events = filter is_its (as_own_events writes events)
-
-  abbrev with_writes : (Reg → ℕ) → List Event → Event → OwnEvent
-  with_writes writes before event =
-      record { event = event; writes_before = writes_met (λ register. writes register + count_by (is_write_of register) before) event }
-
-  -- an event of the process is on its list, with the writes that stand before it
-  noted_at : (writes : Reg → ℕ) (events : List Event) (i : ℕ) (event : Event) → slice_get events i ≡ Some event → is_step_of p event ≡ true
-      → slice_get (own_behind writes events) (count_by (is_step_of p) (take i events)) ≡ Some (with_writes writes (take i events) event)
-  noted_at writes [] i event at is = absurd (none-some event at)
-  noted_at writes (x ∷ xs) zero event at is =
-      let same = same_Some x event at in
-      let own : OwnEvent = record { event = x; writes_before = writes_met writes x } in
-      ap (λ b. slice_get (cond b (own ∷ own_behind (writes_with writes x) xs) (own_behind (writes_with writes x) xs)) 0) (ap (is_step_of p) same ∙ is)
-      ∙ ap (λ o. Some (record { event = x; writes_before = o })) (met_same writes (λ register. writes register + 0) (λ register. omega arith) x)
-      ∙ ap (λ e. Some (with_writes writes [] e)) same
-  noted_at writes (x ∷ xs) (suc i) event at is =
-      let again = noted_at (writes_with writes x) xs i event at is in
-      let index = sum_by-cons (λ e. cond (is_step_of p e) 1 0) x (take i xs) in
-      by (is_step_of p x) _ _ _ _ (sym index) again
-      ∙ ap (λ o. Some (record { event = event; writes_before = o }))
-      (met_same _ _
-      (λ register.
-      let one = one_with writes x register in
-      let more = sum_by-cons (λ e. cond (is_write_of register e) 1 0) x (take i xs) in
-      omega arith)
-      event)
-    where
-      by : (b : Bool) (n m : ℕ) (own : OwnEvent) (o : Option OwnEvent) → cond b 1 0 + n ≡ m → slice_get (own_behind (writes_with writes x) xs) n ≡ o
-          → slice_get (cond b (own ∷ own_behind (writes_with writes x) xs) (own_behind (writes_with writes x) xs)) m ≡ o
-      by true n m own o e again = let f : m ≡ suc n = omega arith in rw f again
-      by false n m own o e again = let f : m ≡ n = omega arith in rw f again
 
   -- its events are the steps of the process
   own_events : (writes : Reg → ℕ) (events : List Event) → map (λ (own : OwnEvent). own.event) (own_behind writes events) ≡ steps_by p events
@@ -88,29 +80,19 @@ module _ (p : ℕ) where
     -- the step of that name, with the writes before it
     pub own_named : (k at : ℕ) (event : Event) → nth history at ≡ Some event → event_name event ≡ step_name p k
         → nth (own_steps p history) k ≡ Some (record { event = event; writes_before = writes_met (writes_before history at) event })
-    own_named k zero event there name = absurd (none-some event there)
-    own_named k (suc i) event there name = by k number
+    own_named k zero event stands name = absurd (none-some event stands)
+    own_named k (suc i) event stands name =
+        let own = own_with (writes_before history (suc i)) event in
+        let among = met_in (writes_before history (suc i)) event no_writes history i (λ register. omega arith) stands in
+        let at = position_in own (own_steps p history) (in_filter is_its own (as_own_events no_writes history) among (its event name)) in
+        let number =
+        numbered (suc at.0) event
+        (ap (λ l. slice_get l at.0) (sym (own_events no_writes history)) ∙ event_of (own_steps p history) at.0 own at.1) in
+        rw (name_parts p k p (suc at.0) (sym name ∙ number)).1 at.1
       where
         its : (event : Event) → event_name event ≡ step_name p k → is_step_of p event ≡ true
         its (Step q l kind) name = eq-eqb q p (name_parts q l p k name).0
         its (Lost copy) name = absurd (cc)
-
-        index : ℕ
-        index = count_by (is_step_of p) (take i history)
-
-        there_too : slice_get (own_steps p history) index ≡ Some (with_writes no_writes (take i history) event)
-        there_too = noted_at no_writes history i event there (its event name)
-
-        number : k ≡ suc index
-        number =
-            let is =
-            numbered (suc index) event
-            (ap (λ l. slice_get l index) (sym (own_events no_writes history)) ∙ event_of (own_steps p history) index _ there_too) in
-            (name_parts p k p (suc index) (sym name ∙ is)).1
-
-        by : (k : ℕ) → k ≡ suc index
-            → nth (own_steps p history) k ≡ Some (record { event = event; writes_before = writes_met (writes_before history (suc i)) event })
-        by k e = rw e (there_too ∙ ap (λ o. Some (record { event = event; writes_before = o })) (met_same _ _ (λ register. omega arith) event))
 
     -- and where no event has the name, there is none
     pub none_named : (k : ℕ) → IsNewName history (step_name p k) → nth (own_steps p history) k ≡ None
@@ -125,9 +107,6 @@ module _ (p : ℕ) where
             absurd (new (suc found.0) (own.event, found.1, numbered (suc i) own.event at))
 
 -- lists of one length with the same at each index are one
-pub same_lists : {A : Type 0} (xs ys : List A) → length xs ≡ length ys → ((i : ℕ) → i < length xs → slice_get xs i ≡ slice_get ys i) → xs ≡ ys
-same_lists [] [] long same = refl
-same_lists [] (y ∷ ys) long same = absurd (omega arith)
-same_lists (x ∷ xs) [] long same = absurd (omega arith)
-same_lists (x ∷ xs) (y ∷ ys) long same =
-    ap₂ (λ a l. a ∷ l) (same_Some x y (same 0 (omega arith))) (same_lists xs ys (omega arith) (λ i less. same (suc i) (omega arith)))
+pub same_rows : {A : Type 0} (xs ys : List A) → length xs ≡ length ys → ((i : ℕ) → i < length xs → slice_get xs i ≡ slice_get ys i) → xs ≡ ys
+same_rows xs ys long same =
+    same_lists xs ys long (λ i d less. sym (unwrap_or-slice_get xs i d) ∙ ap (λ o. unwrap_or o d) (same i less) ∙ unwrap_or-slice_get ys i d)

@@ -1,12 +1,13 @@
 -- Recorded events that do not depend on each other may be exchanged with the records that they have, so that a free one
 -- may be taken last.
-use Rattle.std.proofs.Common.{◌≡◌, ℕ, Bool, false, List, Option, Some, option_map, refl, sym, ap, ◌∙◌}
+use Rattle.std.proofs.Common.{◌≡◌, ℕ, Bool, false, List, Option, None, Some, option_map, refl, sym, ap, ap₂, ◌∙◌}
 use Rattle.cdb_base.specs.Positions.{nth}
 use Rattle.cdb_base.specs.declared.event.Event.{Event}
 use Rattle.cdb_base.specs.declared.event.Event.TheVariants.{Step, Lost}
 use Rattle.cdb_base.specs.declared.event.Kind.{Kind}
 use Rattle.cdb_base.specs.declared.event.Kind.TheVariants.{Write}
 use Rattle.cdb_base.specs.declared.name.StepId.{StepId}
+use Rattle.cdb_base.specs.declared.register.Cell.{Cell}
 use Rattle.cdb_causal.specs.Dependence.{depends}
 use Rattle.cdb_causal.specs.Effects.{kind_affects}
 use Rattle.cdb_causal.specs.Causality.{IsFree}
@@ -23,7 +24,7 @@ use Rattle.cdb_standing.specs.declared.recorded.Recorded.{Recorded}
 use Rattle.cdb_register.specs.declared.RegisterState.{RegisterState}
 use Rattle.cdb_run.specs.Back.{overwritten_cell}
 use Rattle.cdb_run.specs.Recorded.{IsRecorded, PutsBack, overwritten_by}
-use Rattle.cdb_rules.specs.State.{Machine, RunState}
+use Rattle.cdb_rules.specs.State.{Machine, ProcessState, RunState}
 use Rattle.cdb_rules.specs.Step.{after}
 use Rattle.cdb_rules.proofs.Commutes.{after_commutes, lost_from}
 use Rattle.cdb_rules.proofs.Kept.{nat_eq-ne, affects_read, process_kept, register_kept}
@@ -47,11 +48,13 @@ abbrev pub entries_depend : {B : Type 0} → Recorded B → Recorded B → Bool
 entries_depend first second = depends first.event second.event
 
 module _ {L : Type 0} (machine : Machine L) where
-  -- what an event leaves of what the record of another one speaks of: its process, and the cell that it writes
+  -- what the record of an event speaks of: its process, and the cell that it writes
+  abbrev Seen : Type 0
+  Seen = Option (ProcessState L) × Option Cell
 
-  abbrev IsAlike : RunState L → RunState L → Event → Type 0
-  IsAlike state to (Step q l kind) = (nth to.processes q ≡ nth state.processes q) × (overwritten_cell to.registers kind ≡ overwritten_cell state.registers kind)
-  IsAlike state to (Lost copy) = Unit {0}
+  abbrev seen : RunState L → Event → Seen
+  seen state (Step p k kind) = (nth state.processes p, overwritten_cell state.registers kind)
+  seen state (Lost copy) = (None, None)
 
   cell_kept : (state to : RunState L) (p k : ℕ) (kind : Kind) → IsTaken machine state p k kind to → (other : Kind) → kind_affects p kind other ≡ false
       → overwritten_cell to.registers other ≡ overwritten_cell state.registers other
@@ -59,41 +62,34 @@ module _ {L : Type 0} (machine : Machine L) where
       ap (option_map (λ (stands : RegisterState). stands.cell)) (register_kept machine state to p k kind t x (affects_read p kind x ∙ h))
   cell_kept state to p k kind t _ h = refl
 
-  alike : (state to : RunState L) (first second : Event) → depends first second ≡ false → after machine state first ≡ Some to → IsAlike state to second
+  -- an event leaves what the record of an independent one speaks of
+  alike : (state to : RunState L) (first second : Event) → depends first second ≡ false → after machine state first ≡ Some to
+      → seen to second ≡ seen state second
+  alike state to first (Lost copy) h one = refl
   alike state to (Step p k kind) (Step q l other) h one =
-      let t = taken_from machine state to p k kind one in (
-        process_kept machine state to p k kind t q (nat_eq-ne p q (other_process (Step p k kind) (Step q l other) h)),
-        cell_kept state to p k kind t other (unaffected (Step p k kind) (Step q l other) h),
-      )
-  alike state to (Lost copy) (Step q l other) h one =
-      let is = (lost_from machine state to copy one).1 in
-      (ap (λ (x : RunState L). nth x.processes q) (sym is), ap (λ (x : RunState L). overwritten_cell x.registers other) (sym is))
-  alike state to first (Lost copy) h one = tt
+      let t = taken_from machine state to p k kind one in
+      ap₂ (λ process cell. (process, cell))
+      (process_kept machine state to p k kind t q (nat_eq-ne p q (other_process (Step p k kind) (Step q l other) h)))
+      (cell_kept state to p k kind t other (unaffected (Step p k kind) (Step q l other) h))
+  alike state to (Lost copy) (Step q l other) h one = ap (λ x. seen x (Step q l other)) (sym (lost_from machine state to copy one).1)
 
   module _ {B : Type 0} (before : L → B → L) where
+    -- so its record is the same wherever what it speaks of is
     module _ (state to other_state other_to : RunState L) where
-      back_kept : (event : Event) (back : Option B) → IsAlike other_state state event → IsAlike other_to to event → PutsBack before state event back to
-          → PutsBack before other_state event back other_to
-      back_kept (Step p k kind) back was is h = λ process left at at_left. h process left (was.0 ∙ at) (is.0 ∙ at_left)
-      back_kept (Lost copy) back was is h = h
+      kept : (event : Event) (back : Option B) → seen state event ≡ seen other_state event → seen to event ≡ seen other_to event
+          → PutsBack before state event back to
+          → PutsBack before other_state event back other_to × (overwritten_by state event ≡ overwritten_by other_state event)
+      kept (Step p k kind) back was is puts = (
+        λ process left at at_left. puts process left (ap (λ (it : Seen). it.0) was ∙ at) (ap (λ (it : Seen). it.0) is ∙ at_left),
+        ap (λ (it : Seen). it.1) was,
+      )
+      kept (Lost copy) back was is puts = (puts, refl)
 
-      overwritten_kept : (event : Event) → IsAlike other_state state event → overwritten_by state event ≡ overwritten_by other_state event
-      overwritten_kept (Step p k kind) was = was.1
-      overwritten_kept (Lost copy) was = refl
-
-      recorded_kept : (entry : Recorded B) → IsAlike other_state state entry.event → IsAlike other_to to entry.event
-          → after machine other_state entry.event ≡ Some other_to → IsRecorded machine before state entry to
-          → IsRecorded machine before other_state entry other_to
-      recorded_kept entry was is leads recorded =
-          record {
-            leads = leads;
-            back = back_kept entry.event entry.back was is recorded.back;
-            cell = recorded.cell ∙ overwritten_kept entry.event was;
-          }
-
-    flipped : (state to : RunState L) (event : Event) → IsAlike state to event → IsAlike to state event
-    flipped state to (Step q l kind) h = (sym h.0, sym h.1)
-    flipped state to (Lost copy) h = tt
+      recorded_kept : (recorded : Recorded B) → seen state recorded.event ≡ seen other_state recorded.event
+          → seen to recorded.event ≡ seen other_to recorded.event → after machine other_state recorded.event ≡ Some other_to
+          → IsRecorded machine before state recorded to → IsRecorded machine before other_state recorded other_to
+      recorded_kept recorded was is leads it =
+          let both = kept recorded.event recorded.back was is it.back in record { leads = leads; back = both.0; cell = it.cell ∙ both.1 }
 
     -- each meets what it met, so that its record is the same
     pub recorded_exchange : IsExchangeable (IsRecorded machine before) entries_depend
@@ -107,8 +103,7 @@ module _ {L : Type 0} (machine : Machine L) where
           recorded_kept between to state other second (alike state between first.event second.event independent one.leads)
               (alike other to first.event second.event independent swapped.2) swapped.1 two,
           recorded_kept state between other to first
-              (flipped state other first.event (alike state other second.event first.event turned swapped.1))
-              (flipped between to first.event (alike between to second.event first.event turned two.leads))
+              (sym (alike state other second.event first.event turned swapped.1)) (sym (alike between to second.event first.event turned two.leads))
               swapped.2 one,
         )
 

@@ -89,15 +89,6 @@ module _ {L : Type 0} (machine : Machine L) where
           ((λ stands. two.0 (sym lost ∙ one.1 stands)), (λ stands. one.0 (lost ∙ two.1 stands))),
     )
 
-    alike_folds : AreAlike history others ↔ (fold machine history ≡ fold machine others)
-    alike_folds = (
-      λ alike. fold_exchanged machine history others (alike_exchanged alike),
-      λ same. runs_are_alike (same_Some to other (sym h ∙ same ∙ g)),
-    )
-
-    alike_exchanges : AreAlike history others ↔ IsExchanged depends history others
-    alike_exchanges = (alike_exchanged, λ exchanged. alike_folds.1 (fold_exchanged machine history others exchanged))
-
   -- what a call says of two valid histories
   module _ (few : length machine.firsts ≤ 9) (history others : List Event) (valid : IsValid machine history)
       (other_valid : IsValid machine others) (returned : Bool) (said : IsTrue returned ↔ AreAlike history others) where
@@ -105,8 +96,9 @@ module _ {L : Type 0} (machine : Machine L) where
     answered =
         let to = some_of (fold machine history) valid in
         let other = some_of (fold machine others) other_valid in
-        let folds = alike_folds few history others to.0 other.0 to.1 other.1 in
-        let exchanges = alike_exchanges few history others to.0 other.0 to.1 other.1 in (
-          (λ yes. folds.0 (said.0 yes), λ same. said.1 (folds.1 same)),
-          (λ yes. exchanges.0 (said.0 yes), λ exchanged. said.1 (exchanges.1 exchanged)),
+        let exchanged = λ (yes : IsTrue returned). alike_exchanged few history others to.0 other.0 to.1 other.1 (said.0 yes) in
+        let alike = λ (same : fold machine history ≡ fold machine others).
+        said.1 (runs_are_alike few history others to.0 other.0 to.1 other.1 (same_Some to.0 other.0 (sym to.1 ∙ same ∙ other.1))) in (
+          ((λ yes. fold_exchanged machine history others (exchanged yes)), alike),
+          (exchanged, (λ moved. alike (fold_exchanged machine history others moved))),
         )

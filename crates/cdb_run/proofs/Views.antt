@@ -3,9 +3,8 @@ use Rattle.std.proofs.lemmas.Grind.{common_steps}
 use Rattle.std.proofs.lemmas.Option.{gets}
 use Rattle.std.proofs.lemmas.Simd.{map-map}
 use Rattle.std.proofs.Common.{◌≡◌, ◌↔◌, ℕ, ◌+◌, ◌≤◌, true, false, List, length, map, Option, Some, None}
-use Rattle.std.proofs.Common.{Result, Ok, Err, IsOk, IfOk, option_map, unwrap_or, get_or, IsSome, refl, sym, ap, ◌∙◌, subst, arith}
+use Rattle.std.proofs.Common.{Result, Ok, Err, IsOk, IfOk, option_map, get_or, refl, sym, ap, ◌∙◌, subst, arith}
 use Rattle.std.proofs.lemmas.List.{length-map}
-use Rattle.std.proofs.lemmas.Option.{none-some, same_Some}
 use Rattle.std.specs.Option.{option_map_or}
 use Rattle.std.specs.Prelude.{IfSome}
 use Rattle.cdb_base.specs.Positions.{nth}
@@ -17,64 +16,54 @@ use Rattle.cdb_base.specs.declared.refusal.Refusal.{Refusal}
 use Rattle.cdb_base.specs.declared.refusal.Refusal.TheVariants.{NoProcess}
 use Rattle.cdb_message.specs.Mail.{message_name}
 use Rattle.cdb_process.specs.Table.{Table}
+use Rattle.cdb_rules.specs.Decisions.{decided_from}
+use Rattle.cdb_rules.specs.Machines.{machine_of}
 use Rattle.cdb_rules.specs.Mail.{mail_of}
 use Rattle.cdb_rules.specs.Refusals.{planned, planned_again, IsOfRun}
 use Rattle.cdb_rules.specs.RunView.{RunView}
-use Rattle.cdb_rules.specs.Runs.{machine_in, state_in, process_in, progress_in, mail_in, registers_in, result_of_step, result_of_again}
-use Rattle.cdb_rules.specs.Runs.{result_of_loss, with_event, IsNext, IsJustTaken}
-use Rattle.cdb_rules.specs.State.{Machine, ProcessState, RunState, start}
-use Rattle.cdb_rules.specs.Step.{is_among, fold, state_of}
+use Rattle.cdb_rules.specs.Runs.{machine_in, state_in, process_in, progress_in, mail_in, registers_in, decisions_in, result_of_step, result_of_again}
+use Rattle.cdb_rules.specs.Runs.{result_of_loss, with_event, IsNext, IsInOrder, IsJustTaken}
+use Rattle.cdb_rules.specs.State.{Machine, ProcessState, RunState}
+use Rattle.cdb_rules.specs.Step.{is_among}
 use Rattle.cdb_rules.specs.declared.progress.Progress.{Progress}
 use Rattle.cdb_rules.proofs.Again.{again_exact, again_same, lose_enabled}
-use Rattle.cdb_rules.proofs.Bounds.{IsSound, IsBounded}
+use Rattle.cdb_rules.proofs.Bounds.{IsSound}
+use Rattle.cdb_rules.proofs.Histories.{reached_state}
 use Rattle.cdb_rules.proofs.Planned.{planned_enabled}
 use Rattle.cdb_rules.proofs.Positions.{nth-map}
-use Rattle.cdb_rules.proofs.Taken.{some_of}
+use Rattle.cdb_rules.proofs.Taken.{mapped}
 use Rattle.cdb_rules.proofs.TakenBack.{just_taken}
-use Rattle.cdb_run.specs.Current.{Held, IsCurrent}
-use Rattle.cdb_run.specs.Plans.{plan_at, plan_again_at}
+use Rattle.cdb_run.specs.Current.{Held, held_of, IsCurrent}
 use Rattle.cdb_run.specs.Proper.{IsProper}
-use Rattle.cdb_run.proofs.Held.{machine_each, valid, state_is, reached_sound}
+use Rattle.cdb_run.proofs.Held.{view, machine_each, valid, state_is, sound, reached_sound}
 use Rattle.cdb_setup.proofs.InRange.{answer_in_range}
-use Rattle.cdb_setup.specs.Parts.{IsWithin, answer_of}
-use Rattle.cdb_standing.specs.Recorded.{events_of}
+use Rattle.cdb_setup.specs.Parts.{Parts, AreInRange, IsWithin, answer_of}
 use Rattle.cdb_standing.specs.declared.recorded.Recorded.{Recorded}
 
 -- By what is held.
-module _ {L B : Type 0} {machine : Machine L} {before : L → B → L} {held : Held L} {entries : List (Recorded B)}
-    (current : IsCurrent machine before held entries) where
-  pub history_valid : IsSome (fold machine (events_of entries))
-  history_valid = subst IsSome (sym (valid current)) refl
+module _ {L B : Type 0} (table : Table L) {before : L → B → L} {setup : Parts} {held : Held L} {entries : List (Recorded B)}
+    (current : IsCurrent (machine_of table setup) before held entries) {run : RunView} (seen : view setup entries ≡ run) where
+  pub history_valid : IsInOrder table run
+  history_valid = rw (← seen) (rw (valid current) refl)
 
-  pub mail_shown : held.mail ≡ mail_of (state_of machine (events_of entries))
-  mail_shown = ap (λ (h : Held L). h.mail) current.holds ∙ ap mail_of (sym (state_is current))
-
-  pub registers_shown : held.registers ≡ (state_of machine (events_of entries)).registers
-  registers_shown = ap (λ (h : Held L). h.registers) current.holds ∙ ap (λ (state : RunState L). state.registers) (sym (state_is current))
-
-  processes_shown : held.processes ≡ map (λ process. process.progress) (state_of machine (events_of entries)).processes
-  processes_shown =
-      ap (λ (h : Held L). h.processes) current.holds
-      ∙ ap (λ (state : RunState L). map (λ (it : ProcessState L). it.progress) state.processes) (sym (state_is current))
+  -- what is held is the state that the run is in
+  pub shown : held ≡ held_of (state_in table run)
+  shown = rw (← seen) (current.holds ∙ ap held_of (sym (state_is current)))
 
   -- each process is there, and no other
-  pub count_is : length held.processes ≡ length machine.firsts
-  count_is =
-      ap length processes_shown ∙ length-map (state_of machine (events_of entries)).processes (λ (x : ProcessState L). x.progress)
-      ∙ (reached_sound machine (events_of entries) _ (valid current ∙ ap Some (sym (state_is current)))).count
+  pub count_is : AreInRange setup → length held.processes ≡ run.setup.processes
+  count_is ranges =
+      ap (λ (h : Held L). length h.processes) current.holds ∙ length-map current.state.processes (λ (x : ProcessState L). x.progress)
+      ∙ (sound current).count ∙ machine_each table setup ranges ∙ ap (λ (it : RunView). it.setup.processes) seen
 
-  pub progress_shown : (p : ℕ) (progress : Progress L) → nth held.processes p ≡ Some progress
-      → option_map (λ process. process.progress) (nth (state_of machine (events_of entries)).processes p) ≡ Some progress
+  pub progress_shown : (p : ℕ) (progress : Progress L) → nth held.processes p ≡ Some progress → progress_in table run p ≡ Some progress
   progress_shown p progress at =
-      sym (nth-map (λ (it : ProcessState L). it.progress) (state_of machine (events_of entries)).processes p)
-      ∙ ap (λ l. nth l p) (sym processes_shown) ∙ at
+      sym (nth-map (λ (it : ProcessState L). it.progress) (state_in table run).processes p) ∙ (rw shown at at)
 
-  -- what each process has come to
-  pub locals_shown : map (λ (progress : Progress L). progress.local) held.processes
-      ≡ map (λ (process : ProcessState L). process.progress.local) (state_of machine (events_of entries)).processes
-  locals_shown =
-      ap (map (λ (progress : Progress L). progress.local)) processes_shown
-      ∙ map-map (λ (progress : Progress L). progress.local) (λ (process : ProcessState L). process.progress) (state_of machine (events_of entries)).processes
+  pub decisions_shown : decided_from table.decision 1 (map (λ (progress : Progress L). progress.local) held.processes) ≡ decisions_in table run
+  decisions_shown =
+      rw shown (ap (decided_from table.decision 1)
+      (map-map (λ (progress : Progress L). progress.local) (λ (process : ProcessState L). process.progress) (state_in table run).processes))
 
 -- what stands at the position i from 0
 pub found_there : {A : Type 0} (xs : List A) (i p : ℕ) (x : A) → i + 1 ≡ p → p ≤ length xs → x ≡ get_or xs i x → nth xs p ≡ Some x
@@ -90,14 +79,12 @@ within_among n answer within leader answered = grind (arith, common_steps, gets)
 module _ {L A : Type 0} (ask : Progress L → A) (none : A) where
   asked : (process : Option (ProcessState L)) (progress : Progress L) → option_map (λ it. it.progress) process ≡ Some progress
       → ask progress ≡ option_map_or (λ it. ask it.progress) process none
-  asked None progress shown = absurd (none-some progress shown)
-  asked (Some process) progress shown = ap ask (sym (same_Some process.progress progress shown))
+  asked process progress shown = grind (arith, common_steps, gets)
 
 -- an answer that is the event, exactly where it can be taken
 ok_is : {E : Type 0} (Holds : Event → Type 0) (event : Event) (answer : Result Event E) → (IsOk answer ↔ Holds event) → IfOk answer (λ it. it ≡ event)
     → IfOk answer Holds
-ok_is Holds event (Ok it) exact same = subst Holds (sym same) (exact.0 refl)
-ok_is Holds event (Err why) exact same = tt
+ok_is Holds event answer exact same = grind (arith, common_steps, gets)
 
 -- By its view.
 module _ {L : Type 0} (table : Table L) (run : RunView) (proper : IsProper table run) where
@@ -111,9 +98,7 @@ module _ {L : Type 0} (table : Table L) (run : RunView) (proper : IsProper table
   number = machine_each table run.setup proper.ranges
 
   pub view_sound : IsSound machine state
-  view_sound =
-      let reached = some_of (fold machine run.history) proper.in_order in
-      reached_sound machine run.history state (reached.1 ∙ sym (ap Some (ap (λ o. unwrap_or o (start machine)) reached.1)))
+  view_sound = reached_sound machine run.history state (reached_state machine run.history proper.in_order)
 
   pub receivers_shown : length (mail_in table run).received ≡ run.setup.processes
   receivers_shown = length-map state.processes (λ (x : ProcessState L). x.received) ∙ view_sound.count ∙ number
@@ -124,25 +109,19 @@ module _ {L : Type 0} (table : Table L) (run : RunView) (proper : IsProper table
   -- a process that has come so far
   module _ (p : ℕ) (progress : Progress L) (shown : progress_in table run p ≡ Some progress) where
     pub counts_shown : (progress.steps ≤ 9999) × (progress.queries ≤ 9999)
-    counts_shown = by (process_in table run p) shown (λ process at. (view_sound.bounded p process at))
-      where
-        by : (o : Option (ProcessState L)) → option_map (λ it. it.progress) o ≡ Some progress
-            → ((process : ProcessState L) → o ≡ Some process → IsBounded process)
-            → (progress.steps ≤ 9999) × (progress.queries ≤ 9999)
-        by None shown bounded = absurd (none-some progress shown)
-        by (Some process) shown bounded =
-            let few = bounded process refl in
-            let steps = few.steps in
-            let queries = few.queries in
-            subst (λ (x : Progress L). (x.steps ≤ 9999) × (x.queries ≤ 9999)) (same_Some process.progress progress shown)
-            (steps, omega (arith, steps, queries))
+    counts_shown =
+        let process = mapped (λ (it : ProcessState L). it.progress) (process_in table run p) progress shown in
+        let few = view_sound.bounded p process.0 process.1 in
+        let steps = few.steps in
+        let queries = few.queries in
+        subst (λ (it : Progress L). (it.steps ≤ 9999) × (it.queries ≤ 9999)) process.2 (steps, omega (arith, steps, queries))
 
-    pub plan_shown : (act : Act) → plan_at table run.setup (mail_in table run) (registers_in table run) progress p act ≡ result_of_step table run p act
+    pub plan_shown : (act : Act) → planned machine run.setup (mail_in table run) (registers_in table run) progress p act ≡ result_of_step table run p act
     plan_shown act =
         asked (λ it. planned machine run.setup (mail_in table run) (registers_in table run) it p act) (Err NoProcess) (process_in table run p) progress shown
 
     pub again_shown : (k : ℕ) (kind : Kind)
-        → plan_again_at table run.setup (mail_in table run) (registers_in table run) progress p k kind ≡ result_of_again table run (Step p k kind)
+        → planned_again machine (mail_in table run) (registers_in table run) progress p k kind ≡ result_of_again table run (Step p k kind)
     again_shown k kind =
         asked (λ it. planned_again machine (mail_in table run) (registers_in table run) it p k kind) (Err NoProcess) (process_in table run p) progress shown
 

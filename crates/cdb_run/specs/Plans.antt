@@ -15,26 +15,9 @@ use Rattle.cdb_message.specs.Mail.{MailState, copy_name, sent_by, is_sent, is_re
 use Rattle.cdb_process.specs.Table.{Table}
 use Rattle.cdb_register.specs.Registers.{RegisterStates}
 use Rattle.cdb_rules.specs.Machines.{machine_of}
-use Rattle.cdb_rules.specs.Refusals.{first_refusal, accepts_kind, planned, planned_again, again_checks}
+use Rattle.cdb_rules.specs.Refusals.{first_refusal, accepts_kind}
 use Rattle.cdb_rules.specs.declared.progress.Progress.{Progress}
 use Rattle.cdb_setup.specs.Parts.{Parts}
-
--- the first refusal that holds, else the event that the act names
-abbrev pub plan_at : {L : Type 0} → Table L → Parts → MailState
-    → RegisterStates → Progress L → ℕ → Act → Result Event Refusal
-plan_at table setup mail registers progress p do_act =
-    planned (machine_of table setup) setup mail registers progress p do_act
-
--- the same for a step that was undone
-abbrev pub plan_again_at : {L : Type 0} → Table L → Parts → MailState
-    → RegisterStates → Progress L → ℕ → ℕ → Kind → Result Event Refusal
-plan_again_at table setup mail registers progress p k kind =
-    planned_again (machine_of table setup) mail registers progress p k kind
-
-abbrev pub refusal_again_at : {L : Type 0} → Table L → Parts → MailState
-    → RegisterStates → Progress L → ℕ → ℕ → Kind → Option Refusal
-refusal_again_at table setup mail registers progress p k kind =
-    first_refusal (again_checks (machine_of table setup) mail registers progress p k kind)
 
 -- why the copy of a message for process p can be neither received nor lost
 abbrev pub copy_refusal : MailState → ℕ → MsgName → Option Refusal

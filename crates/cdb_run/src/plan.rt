@@ -2,10 +2,10 @@
 
 ghost use Rattle.std.specs.Prelude.{◌≡◌, ◌≤◌, ◌==◌, true, false, None, Some, length};
 ghost use Rattle.cdb_message.specs.Mail.{message_name};
-ghost use Rattle.cdb_run.specs.Plans.{plan_at, plan_again_at, refusal_again_at, copy_refusal};
-ghost use Rattle.cdb_run.specs.Plans.{next_step_of, step_if_accepted};
+ghost use Rattle.cdb_run.specs.Plans.{copy_refusal, next_step_of, step_if_accepted};
 ghost use Rattle.cdb_rules.specs.Machines.{machine_of};
-ghost use Rattle.cdb_rules.specs.Refusals.{wished_kind, accepts_kind, planned_loss};
+ghost use Rattle.cdb_rules.specs.Refusals.{wished_kind, accepts_kind, first_refusal, again_checks, planned};
+ghost use Rattle.cdb_rules.specs.Refusals.{planned_again, planned_loss};
 
 use crate::among::process_among;
 use cdb_base::limits::MAX_STEPS;
@@ -125,7 +125,7 @@ fn plan_go<P: Process>(
 ) -> Result<Event, Refusal>
     requires alive { progress.now.alive ≡ true }
     requires going { (P.table.place progress.now.local == P.table.last_place) ≡ false }
-    ensures { result ≡ plan_at P.table setup.now mail.now registers.now progress.now p Act.Go }
+    ensures { result ≡ planned (machine_of P.table setup.now) setup.now mail.now registers.now progress.now p Act.Go }
 {
     let Some(wish) = progress.local.wish() else {
         return Err(Refusal::NotNow);
@@ -148,7 +148,7 @@ fn plan_query<P: Process>(
     requires alive { progress.now.alive ≡ true }
     requires going { (P.table.place progress.now.local == P.table.last_place) ≡ false }
     requires queries { progress.now.queries ≤ MAX_STEPS }
-    ensures { result ≡ plan_at P.table setup.now mail.now registers.now progress.now p
+    ensures { result ≡ planned (machine_of P.table setup.now) setup.now mail.now registers.now progress.now p
         (Act.Query None) }
 {
     if !accepts_query(&progress.local) {
@@ -171,7 +171,7 @@ fn plan_result<P: Process>(
 ) -> Result<Event, Refusal>
     requires alive { progress.now.alive ≡ true }
     requires going { (P.table.place progress.now.local == P.table.last_place) ≡ false }
-    ensures { result ≡ plan_at P.table setup.now mail.now registers.now progress.now p
+    ensures { result ≡ planned (machine_of P.table setup.now) setup.now mail.now registers.now progress.now p
         (Act.Query (Some leader)) }
 {
     if !accepts_query(&progress.local) {
@@ -196,7 +196,7 @@ fn plan_recv<P: Process>(
     requires among { p ≤ length mail.now.received }
     requires alive { progress.now.alive ≡ true }
     requires going { (P.table.place progress.now.local == P.table.last_place) ≡ false }
-    ensures { result ≡ plan_at P.table setup.now mail.now registers.now progress.now p
+    ensures { result ≡ planned (machine_of P.table setup.now) setup.now mail.now registers.now progress.now p
         (Act.Recv s m) }
 {
     if !accepts_receive(&progress.local) {
@@ -228,7 +228,7 @@ pub(crate) fn plan<P: Process>(
 ) -> Result<Event, Refusal>
     requires among { p ≤ length mail.now.received }
     requires queries { progress.now.queries ≤ MAX_STEPS }
-    ensures { result ≡ plan_at P.table setup.now mail.now registers.now progress.now p act }
+    ensures { result ≡ planned (machine_of P.table setup.now) setup.now mail.now registers.now progress.now p act }
 {
     if !progress.alive {
         return Err(Refusal::Crashed);
@@ -301,8 +301,8 @@ fn refuses_again<P: Process>(
 ) -> Option<Refusal>
     requires among { p ≤ length mail.now.received }
     requires steps { progress.now.steps ≤ MAX_STEPS }
-    ensures { result ≡ refusal_again_at P.table setup.now mail.now registers.now progress.now p k
-        kind.now }
+    ensures { result ≡ first_refusal
+        (again_checks (machine_of P.table setup.now) mail.now registers.now progress.now p k kind.now) }
 {
     if u32::from(k) != progress.steps + 1 {
         return Some(Refusal::Moved);
@@ -334,7 +334,7 @@ pub(crate) fn plan_again<P: Process>(
 ) -> Result<Event, Refusal>
     requires among { p ≤ length mail.now.received }
     requires steps { progress.now.steps ≤ MAX_STEPS }
-    ensures { result ≡ plan_again_at P.table setup.now mail.now registers.now progress.now p k
+    ensures { result ≡ planned_again (machine_of P.table setup.now) mail.now registers.now progress.now p k
         kind.now }
 {
     match refuses_again(setup, mail, registers, progress, p, k, kind) {

@@ -374,6 +374,7 @@ impl<P: Process> Run<P> {
         ensures events { result.now ≡ self.now.history }
         ensures valid { IsInOrder P.table self.now }
     {
+        self.proper();
         self.records.history()
     }
 
@@ -384,6 +385,7 @@ impl<P: Process> Run<P> {
         ensures history { result.1 ≡ self.history }
         ensures valid { IsInOrder P.table self }
     {
+        self.proper();
         let Run { setup, records, .. } = self;
         (setup, records.into_history())
     }

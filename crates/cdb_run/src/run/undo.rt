@@ -135,6 +135,7 @@ impl<P: Process> Run<P> {
     }
 
     /// What `undo_event` would be refused with, if it would be. It takes no memory.
+    #[tactic(auto, using(crate::proofs::Found::unrefused))]
     pub fn refuses_undo(&self, event: EventRef) -> Option<Refusal>
         ensures { result ≡ result_err (result_of_undo self.now (name_given event)) }
     {

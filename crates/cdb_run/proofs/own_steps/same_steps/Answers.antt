@@ -5,7 +5,7 @@ use Rattle.cdb_base.specs.Positions.{nth}
 use Rattle.cdb_rules.specs.OwnSteps.{own_steps}
 use Rattle.cdb_rules.specs.contracts.own_event.OwnEventPartialEq.TheImpl as compared
 use Rattle.cdb_rules.specs.declared.own_event.OwnEvent.{OwnEvent}
-use Rattle.cdb_run.proofs.OwnSteps.{own_length, same_lists}
+use Rattle.cdb_run.proofs.OwnSteps.{own_length, same_rows}
 use Rattle.cdb_run.proofs.own_steps.same_steps.Goals as goal
 
 sound : (a b : OwnEvent) → compared.ghosts.eq a b ≡ true → a ≡ b
@@ -36,7 +36,7 @@ returns c =
     let other = own_length c.args.p c.args.other.now in
     let count = c.steps_of-count.ensures.count in
     let other_count = c.steps_of.ensures.count in (
-      (λ e. same_lists (own_steps c.args.p c.args.history.now) (own_steps c.args.p c.args.other.now)
+      (λ e. same_rows (own_steps c.args.p c.args.history.now) (own_steps c.args.p c.args.other.now)
           (omega arith) (λ i less. c.loop-i.invariant i (omega arith))),
       (λ same. refl),
     )

@@ -1,5 +1,5 @@
-use Rattle.std.proofs.Common.{IfOk, ap, ◌∙◌, sym, subst}
-use Rattle.cdb_rules.specs.Runs.{IsNext, result_of_step}
+use Rattle.std.proofs.Common.{ap, ◌∙◌}
+use Rattle.cdb_rules.specs.Runs.{result_of_step}
 use Rattle.cdb_run.proofs.Views.{counts_shown, plan_shown, step_next}
 use Rattle.cdb_run.proofs.run.Run.plan.Goals as goal
 
@@ -16,7 +16,4 @@ returns-clause-returns g c =
     ∙ ap (λ p. result_of_step table run p c.args.act) c.in-Some.ensures.number.0
 
 pub returns-clause-enabled : goal.returns-clause-enabled
-returns-clause-enabled g c =
-    let table = g.P.Process.table in
-    let run = c.args.self.now in
-    subst (λ answer. IfOk answer (IsNext table run)) (sym (returns-clause-returns g c)) (step_next table run c.proper.ensures c.args.p c.args.act)
+returns-clause-enabled g c = rw (returns-clause-returns g c) (step_next g.P.Process.table c.args.self.now c.proper.ensures c.args.p c.args.act)

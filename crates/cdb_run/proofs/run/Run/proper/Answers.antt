@@ -1,13 +1,10 @@
-use Rattle.std.proofs.Common.{subst}
-use Rattle.cdb_run.specs.Proper.{IsProper}
 use Rattle.cdb_run.proofs.Views.{history_valid}
 use Rattle.cdb_run.proofs.run.Run.proper.Goals as goal
 
 pub returns : goal.returns
 returns g c =
     let laws = g.met.P.Process in
-    subst (IsProper g.P.Process.table) c.self.view_is
-    (record {
+    record {
       lawful = record {
         query = laws.query_by_state;
         recv = laws.recv_by_state;
@@ -16,6 +13,6 @@ returns g c =
         write = laws.wish_write;
         local = laws.wish_local;
       };
-      ranges = c.n-ranges.ensures.ranges;
-      in_order = history_valid c.self.invariant;
-    })
+      ranges = rw (← c.self.view_is) c.n-ranges.ensures.ranges;
+      in_order = history_valid g.P.Process.table c.self.invariant c.self.view_is;
+    }

@@ -1,11 +1,8 @@
-use Rattle.std.proofs.Common.{List, [], ◌∷◌, ◌≡◌, ℕ, length, length-append, sym, ap, ◌∙◌, subst, arith}
+use Rattle.std.proofs.Common.{List, [], ◌∷◌, length, length-append, sym, ap, ◌∙◌, arith}
 use Rattle.std.proofs.lemmas.Result.{err_from_is_err_and}
 use Rattle.cdb_base.specs.declared.event.Event.{Event}
-use Rattle.cdb_causal.specs.Dependence.{depends}
-use Rattle.cdb_causal.specs.Names.{IsNamedAt}
-use Rattle.cdb_causal.specs.Rollback.{without, rolled_back}
 use Rattle.cdb_run.proofs.Found.{rollback_granted, number_result, list_result, after_result}
-use Rattle.cdb_run.proofs.RollingBack.{AreLeft, next_free, none_left, all_went}
+use Rattle.cdb_run.proofs.RollingBack.{next_free, none_left, all_went}
 use Rattle.cdb_run.proofs.run.Run.roll_back.Goals as goal
 
 pub restore-requires : goal.restore-requires
@@ -14,8 +11,7 @@ restore-requires g c =
     let into = c.args.removed.now.items in
     let at = c.requires.0 in
     let named = c.requires.1 in
-    let are = λ (events : List Event). AreLeft history at into c.loop-event.self.history events c.loop-event.removed.items in
-    let left = subst are c.in-Some.ensures.items (c.loop-event.invariant.left at named) in
+    let left = rw c.in-Some.ensures.items at (c.loop-event.invariant.left at named) in
     let next = next_free history at into named.0 named.1 c.pop.new.self.items c.in-Some.event left in
     (next.position, (c.in-Some.event, next.stands, sym c.name.ensures), next.free)
 
@@ -34,12 +30,10 @@ loop-event-preserved g c =
     record {
       setup = c.restore.ensures.setup ∙ c.loop-event.invariant.setup;
       left = λ at named.
-          let are = λ (events : List Event). AreLeft history at into c.loop-event.self.history events c.loop-event.removed.items in
-          let left = subst are c.in-Some.ensures.items (c.loop-event.invariant.left at named) in
+          let left = rw c.in-Some.ensures.items at (c.loop-event.invariant.left at named) in
           let next = next_free history at into named.0 named.1 rest event left in
           let gone = c.restore.ensures.event next.position (event, next.stands, sym c.name.ensures) in
-          subst (λ (h : List Event). AreLeft history at into h rest c.push_reserved.new.events.items) (sym gone.1)
-          (subst (λ (l : List Event). AreLeft history at into (without c.loop-event.self.history next.position) rest l) (sym pushed.items) next.then);
+          rw (gone.1, pushed.items) next.then;
       kept = omega (arith, same_room, kept);
       room = omega (arith, longer, same_room, fewer, room, length-append rest (event ∷ []));
     }
@@ -48,8 +42,7 @@ pub returns-clause-number : goal.returns-clause-number
 returns-clause-number g c =
     let run = c.args.self.now in
     let stands = c.requires in
-    let found = c.in_ok-events.events.items in
-    let are = subst (λ h. (at : ℕ) → IsNamedAt h at c.args.name → found ≡ rolled_back depends h at) c.history.ensures.events c.in_ok-events.ensures in
+    let are = rw c.history.ensures.events at c.in_ok-events.ensures in
     let all = ap length (are stands.0 stands.1) in
     let number = c.len-number.ensures in
     let long = c.in_ok-events.events.ok.0 in

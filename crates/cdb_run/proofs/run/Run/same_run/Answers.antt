@@ -1,6 +1,4 @@
-use Rattle.std.proofs.Common.{◌≡◌, ◌↔◌, IsTrue, sym, subst}
 use Rattle.cdb_rules.specs.Machines.{machine_of}
-use Rattle.cdb_rules.specs.Step.{IsValid, fold}
 use Rattle.cdb_run.proofs.Held.{at_most_nine}
 use Rattle.cdb_run.proofs.SameRuns.{answered}
 use Rattle.cdb_run.proofs.run.Run.same_run.Goals as goal
@@ -10,10 +8,7 @@ returns g c =
     let table = g.P.Process.table in
     let run = c.args.self.now in
     let both =
-    answered (machine_of table run.setup) (at_most_nine table run.setup c.proper.ensures.ranges) run.history c.args.other.now.history c.proper.ensures.in_order
-    (subst (λ setup. IsValid (machine_of table setup) c.args.other.now.history) (sym c.requires) c.proper-2.ensures.in_order)
-    c.are_alike.result (rw (c.history.ensures.events, c.history-2.ensures.events) at c.are_alike.ensures) in
-    let state =
-    subst (λ setup. IsTrue c.are_alike.result ↔ (fold (machine_of table run.setup) run.history ≡ fold (machine_of table setup) c.args.other.now.history))
-    c.requires both.0 in
-    record { state = state; exchange = both.1 }
+    answered (machine_of table run.setup) (at_most_nine table run.setup c.proper.ensures.ranges) run.history c.args.other.now.history
+    c.proper.ensures.in_order (rw (← c.requires) at c.proper-2.ensures.in_order) c.are_alike.result
+    (rw (c.history.ensures.events, c.history-2.ensures.events) at c.are_alike.ensures) in
+    record { state = rw (← c.requires) both.0; exchange = both.1 }

@@ -1,9 +1,7 @@
-use Rattle.std.proofs.Common.{refl, sym, subst}
-use Rattle.cdb_causal.specs.Paths.{IsPath}
+use Rattle.std.proofs.Common.{refl}
 use Rattle.cdb_rules.specs.Machines.{machine_of}
 use Rattle.cdb_rules.specs.State.{start}
 use Rattle.cdb_run.specs.Current.{held_in}
-use Rattle.cdb_run.specs.Recorded.{IsRecorded}
 use Rattle.cdb_run.proofs.Held.{held_at_start, machine_each}
 use Rattle.cdb_run.proofs.run.Run.start.Goals as goal
 
@@ -15,7 +13,7 @@ invariant_of-result g c =
     let held = c.in_ok-state.ensures in
     record {
       state = start machine;
-      led = subst (λ records. IsPath (IsRecorded machine process.before) (start machine) records (start machine)) (sym c.in_ok-records.ensures) refl;
+      led = rw c.in_ok-records.ensures refl;
       holds =
           held_at_start machine setup.processes (machine_each process.table setup c.n-ranges.ensures.ranges) (held_in c.in_ok-state.state)
           held.processes held.mail held.registers;

@@ -1,29 +1,18 @@
-use Rattle.std.proofs.Common.{rules, ◌≡◌, inl, inr, sym, ap, ◌∙◌, subst}
+use Rattle.std.proofs.Common.{rules, ◌≡◌, inl, inr, sym, ap, ◌∙◌}
 use Rattle.cdb_base.specs.declared.event.Event.TheVariants.{Step}
-use Rattle.cdb_rules.specs.RunView.{RunView}
-use Rattle.cdb_rules.specs.Runs.{IsNext}
 use Rattle.cdb_run.specs.Current.{held_in}
-use Rattle.cdb_run.specs.Stepped.{MayStep, HasStepped}
-use Rattle.cdb_run.specs.declared.state.State.{State}
+use Rattle.cdb_run.specs.Stepped.{HasStepped}
 use Rattle.cdb_run.proofs.Told.{enabled_may_come}
-use Rattle.cdb_run.proofs.Held.{at_most_nine, unchanged}
+use Rattle.cdb_run.proofs.Held.{unchanged}
 use Rattle.cdb_run.proofs.Steps.{step_may, step_added}
 use Rattle.cdb_run.proofs.run.Run.take_step.Goals as goal
 
 pub push_with-requires-clause-may : goal.push_with-requires-clause-may
-push_with-requires-clause-may g c =
-    enabled_may_come c.self.invariant (Step c.args.p c.args.k c.args.kind.now)
-    (subst (λ (s : RunView). IsNext g.P.Process.table s (Step c.args.p c.args.k c.args.kind.now)) (sym c.self.view_is) c.requires)
+push_with-requires-clause-may g c = enabled_may_come g.P.Process.table c.self.invariant c.self.view_is (Step c.args.p c.args.k c.args.kind.now) c.requires
 
 pub push_with-requires-clause-callable : goal.push_with-requires-clause-callable
 push_with-requires-clause-callable g c = λ state is a1 a2 a3 a4 a5 a6 a7 a8 a9 a10.
-    let table = g.P.Process.table in
-    let setup = c.self.inside.setup in
-    let p = c.args.p in
-    let kind = c.args.kind.now in
-    let enabled = subst (λ (s : RunView). IsNext table s (Step p c.args.k kind)) (sym c.self.view_is) c.requires in
-    let few = at_most_nine table setup c.n-ranges.ensures.ranges in
-    subst (λ (s : State _). MayStep table (held_in s) p kind) (sym is) (step_may table setup few c.self.invariant p c.args.k kind enabled)
+    rw is (step_may g.P.Process.table c.n-ranges.ensures.ranges c.self.invariant c.self.view_is c.args.p c.args.k c.args.kind.now c.requires)
 
 pub invariant_of-self : goal.invariant_of-self
 invariant_of-self g c =
@@ -41,16 +30,9 @@ invariant_of-self g c =
 
 pub invariant_of-self-2 : goal.invariant_of-self-2
 invariant_of-self-2 g c =
-    let table = g.P.Process.table in
-    let before = g.P.Process.before in
-    let setup = c.self.inside.setup in
-    let kind = c.args.kind.now in
-    let enabled = subst (λ (s : RunView). IsNext table s (Step c.args.p c.args.k kind)) (sym c.self.view_is) c.requires in
-    let few = at_most_nine table setup c.n-ranges.ensures.ranges in
     let ok = c.in_ok-push_with.ensures.ok in
     let met = ok.1.met in
-    let left : HasStepped table before (held_in ok.1.shown.now) c.args.p kind ok.0 (held_in ok.1.left.now) = search (rules, met) in
-    let stepped =
-    subst (λ s. HasStepped table before (held_in s) c.args.p kind ok.0 (held_in c.push_with.new.state)) ok.1.shows
-    (subst (λ s. HasStepped table before (held_in ok.1.shown.now) c.args.p kind ok.0 (held_in s)) ok.1.leaves left) in
-    step_added table setup few c.self.invariant c.args.p c.args.k kind enabled ok.0 (held_in c.push_with.new.state) stepped ok.2
+    let left : HasStepped g.P.Process.table g.P.Process.before (held_in ok.1.shown.now) c.args.p c.args.kind.now ok.0 (held_in ok.1.left.now) =
+    search (rules, met) in
+    step_added g.P.Process.table c.n-ranges.ensures.ranges c.self.invariant c.self.view_is c.args.p c.args.k c.args.kind.now c.requires
+    (rw (ok.1.shows, ok.1.leaves) at left) ok.2
