@@ -1,8 +1,7 @@
 -- What one entry more does to a replay.
 use Rattle.std.proofs.lemmas.Grind.{common_steps}
 use Rattle.std.proofs.lemmas.Option.{gets}
-use Rattle.std.proofs.Common.{◌≡◌, ℕ, zero, suc, ◌<◌, ◌≤◌, List, [], ◌∷◌, ◌++◌, length, replicate, refl, sym, ap, ◌∙◌, subst, arith, length-append}
-use Rattle.std.proofs.lemmas.List.Sums.{fold-append}
+use Rattle.std.proofs.Common.{◌≡◌, ℕ, zero, suc, ◌-◌, ◌<◌, ◌≤◌, List, [], ◌∷◌, ◌++◌, length, replicate, refl, sym, ap, ◌∙◌, subst, arith, length-append}
 use Rattle.cdb_base.specs.declared.event.Event.{Event}
 use Rattle.cdb_base.specs.Limits.{MAX_ENTRIES, MAX_SEATS}
 use Rattle.cdb_commands.specs.declared.command.Command.{Command}
@@ -16,14 +15,10 @@ use Rattle.cdb_control.specs.Kept.{waiting, IsReplayed}
 use Rattle.cdb_control.specs.Commands.{obey}
 use Rattle.cdb_control.specs.Journal.{entry, replay}
 use Rattle.cdb_rules.proofs.Alls.{all-replicate}
-use Rattle.cdb_control.proofs.Table.{Adds, obey-adds}
+use Rattle.cdb_control.proofs.Refused.{leaves, replay-push}
+use Rattle.cdb_control.proofs.Table.{obey-adds}
 use Rattle.cdb_rules.specs.Refusals.{IsOfRun}
 use Rattle.std.specs.List.{AllByRecursion}
-
-pub replay-push : (rules : Rules) (setup : Parts) (seats : ℕ) (es : List Entry) (e : Entry)
-    → replay rules setup seats (es ++ e ∷ []) ≡ obey rules (replay rules setup seats es) e.seat e.command
-unfolding replay
-replay-push rules setup seats es e = fold-append (λ state x. obey rules state x.seat x.command) (first_control_state setup seats) es (e ∷ [])
 
 waiting-none : (n : ℕ) → waiting (replicate n []) ≡ 0
 waiting-none zero = refl
@@ -50,38 +45,35 @@ IsReplayed-first rules setup seats in_range low high =
       in_range = in_range;
     }
 
+-- a seat has its redo list
+pub seat_has_list : {rules : Rules} {setup : Parts} {seats highest seat : ℕ} {journal : List Entry} {t : State}
+    → IsReplayed rules setup seats journal t → seats ≡ highest → 1 ≤ seat → seat ≤ highest → seat - 1 < length t.redo
+seat_has_list replayed same from_one to_last = let lists = replayed.lists in omega (arith, lists, same, from_one, to_last)
+
 -- a control that has carried one command more out
-pub IsReplayed-push : (rules : Rules) (seats : ℕ) (es : List Entry) (t u : State) (e : Entry) (longer : List Entry)
-    → AreLawful rules t.setup → longer ≡ es ++ e ∷ [] → IsReplayed rules t.setup seats es t → 1 ≤ e.seat → e.seat ≤ seats → length es < MAX_ENTRIES
-    → u ≡ obey rules t e.seat e.command → IsReplayed rules t.setup seats longer u
-IsReplayed-push rules seats es t u e longer lawful is was low high room after =
-    let adds = subst (λ (v : State). Adds t v) (sym after) (obey-adds rules t lawful e.seat e.command low (omega (arith, high, was.lists))) in
+pub IsReplayed-push : (rules_of : Parts → Rules) → ((given : Parts) → AreInRange given → AreLawful (rules_of given) given)
+    → {seats seat : ℕ} {es longer : List Entry} {t u : State} (command : Command) → IsReplayed (rules_of t.setup) t.setup seats es t
+    → longer ≡ es ++ entry seat command ∷ [] → 1 ≤ seat → seat - 1 < length t.redo → length es < MAX_ENTRIES
+    → u ≡ obey (rules_of t.setup) t seat command → IsReplayed (rules_of u.setup) u.setup seats longer u
+IsReplayed-push rules_of lawful {seats} {seat} {es} {longer} {t} {u} command was is from_one low room after =
+    let rules = rules_of t.setup in
+    let e = entry seat command in
+    let next = obey rules t seat command in
+    let lists = was.lists in
+    let adds = obey-adds rules t (lawful t.setup was.in_range) seat command from_one (omega (arith, low, from_one)) in
     let more = length-append es (e ∷ []) in
-    subst (λ (l : List Entry). IsReplayed rules t.setup seats l u) (sym is)
+    subst (λ (v : State). IsReplayed (rules_of v.setup) v.setup seats longer v) (sym after)
+    (subst (λ (s : Parts). IsReplayed (rules_of s) s seats longer next) (sym (leaves rules t seat command).setup)
+    (subst (λ (l : List Entry). IsReplayed rules t.setup seats l next) (sym is)
     (record {
-      replayed = replay-push rules t.setup seats es e ∙ ap (λ (v : State). obey rules v e.seat e.command) was.replayed ∙ sym after;
+      replayed = replay-push rules t.setup seats es e ∙ ap (λ (v : State). obey rules v seat command) was.replayed;
       some_seat = was.some_seat;
       few_seats = was.few_seats;
-      of_seats = push_all _ es e was.of_seats (low, high);
+      of_seats = push_all _ es e was.of_seats (from_one, omega (arith, low, lists, from_one));
       few_entries = omega (arith, more, room);
       lists = adds.lists ∙ was.lists;
       numbers = omega (arith, more, adds.numbers, was.numbers);
       events = omega (arith, more, adds.events, was.events);
       of_run = adds.of_run was.of_run;
       in_range = was.in_range;
-    })
-
-pub obey-setup : (rules : Rules) (t u : State) → AreLawful rules t.setup → (seat : ℕ) (command : Command)
-    → 1 ≤ seat → seat ≤ length t.redo → u ≡ obey rules t seat command → u.setup ≡ t.setup
-obey-setup rules t u lawful seat command low high after =
-    ap (λ (v : State). v.setup) after ∙ (obey-adds rules t lawful seat command low high).setup
-
--- the same, where the rules are those of the state's setup
-pub IsReplayed-next : (rules_of : Parts → Rules) → ((given : Parts) → AreInRange given → AreLawful (rules_of given) given)
-    → (seats : ℕ) (es : List Entry) (t u : State) (seat : ℕ) (command : Command) (longer : List Entry)
-    → longer ≡ es ++ entry seat command ∷ [] → IsReplayed (rules_of t.setup) t.setup seats es t → 1 ≤ seat → seat ≤ seats → length es < MAX_ENTRIES
-    → u ≡ obey (rules_of t.setup) t seat command → IsReplayed (rules_of u.setup) u.setup seats longer u
-IsReplayed-next rules_of lawful seats es t u seat command longer is was low high room after =
-    let same = obey-setup (rules_of t.setup) t u (lawful t.setup was.in_range) seat command low (omega (arith, high, was.lists)) after in
-    subst (λ (s : Parts). IsReplayed (rules_of s) s seats longer u) (sym same)
-    (IsReplayed-push (rules_of t.setup) seats es t u (entry seat command) longer (lawful t.setup was.in_range) is was low high room after)
+    })))

@@ -365,7 +365,7 @@ headline_holds rules same_state lawful keeps setup range seats journal all =
 pub replayed-headline : (rules : Parts → Rules) (same_state : Parts → List Event → List Event → Type 0)
     → ((given : Parts) → AreInRange given → AreLawful (rules given) given)
     → ((given : Parts) → AreInRange given → KeepHistories (rules given) (same_state given) given)
-    → (setup : Parts) (seats : ℕ) (journal : List Entry) (t : State)
-    → IsReplayed (rules setup) setup seats journal t → Headline rules same_state setup seats journal
-replayed-headline rules same_state lawful keeps setup seats journal t is =
+    → {setup : Parts} {seats : ℕ} {journal : List Entry} {t : State} → IsReplayed (rules setup) setup seats journal t
+    → Headline rules same_state setup seats journal
+replayed-headline rules same_state lawful keeps {setup} {seats} {journal} is =
     headline_holds rules same_state lawful keeps setup is.in_range seats journal is.of_seats

@@ -2,20 +2,21 @@
 use Rattle.std.proofs.lemmas.Grind.{common_steps}
 use Rattle.std.proofs.lemmas.Option.{gets}
 use Rattle.std.proofs.lemmas.List.{length-set, get_or-set_other}
-use Rattle.std.proofs.Common.{◌≡◌, ◌≢◌, ◌∙◌, ℕ, ◌-◌, ◌≤◌, true, false, List, [], length, get_or, set, refl, ap, arith, nat_eq}
+use Rattle.std.proofs.lemmas.List.Sums.{fold-append}
+use Rattle.std.proofs.Common.{◌≡◌, ◌≢◌, ◌∙◌, ℕ, ◌-◌, ◌≤◌, true, false, List, [], ◌∷◌, ◌++◌, length, get_or, set, refl, ap, arith, nat_eq}
 use Rattle.cdb_base.specs.declared.event.Event.{Event}
 use Rattle.cdb_commands.specs.declared.command.Command.{Command}
 use Rattle.cdb_commands.specs.declared.command.Command.TheVariants.{Forget}
 use Rattle.cdb_commands.specs.declared.command.Stop.{Stop}
 use Rattle.cdb_rules.specs.Rules.{Rules}
-use Rattle.cdb_control.specs.State.{State, redo_of}
+use Rattle.cdb_control.specs.State.{State, first_control_state, redo_of}
 use Rattle.cdb_control.proofs.Numbers.{AreNumbered, AreBelow-push, AreBelow-remove, AreRising-push, AreRising-remove}
 use Rattle.cdb_commands.specs.ReplyView.{ReplyView, is_refused}
 use Rattle.cdb_control.specs.Commands.{Outcome, outcome, obey}
-use Rattle.cdb_control.specs.Journal.{Journaled, control_state, extended, reply_in}
+use Rattle.cdb_control.specs.Journal.{Journaled, replay, control_state, extended, reply_in}
 use Rattle.cdb_control.specs.Laws.{ActsOnNoRun, IsKeptIfRefused, KeepsOtherLists, KeepsRun, UsesNextNumber}
-use Rattle.cdb_control.proofs.Along.{replay-push}
 use Rattle.cdb_control.proofs.Outcomes.{of_command}
+use Rattle.cdb_control.specs.declared.control.Entry.{Entry}
 use Rattle.cdb_setup.specs.Parts.{Parts}
 
 -- What an outcome leaves alone: everything where it is a refusal, and otherwise the setup, the lists of other seats, the
@@ -102,6 +103,11 @@ unfolding outcome
 next_number_used rules t seat stop number replied = grind (arith, common_steps, gets)
 
 -- ---- one entry more
+
+pub replay-push : (rules : Rules) (setup : Parts) (seats : ℕ) (es : List Entry) (e : Entry)
+    → replay rules setup seats (es ++ e ∷ []) ≡ obey rules (replay rules setup seats es) e.seat e.command
+unfolding replay
+replay-push rules setup seats es e = fold-append (λ state x. obey rules state x.seat x.command) (first_control_state setup seats) es (e ∷ [])
 
 pub state_extended : (rules : Parts → Rules) (c : Journaled) (seat : ℕ) (command : Command)
     → control_state rules (extended rules c seat command) ≡ obey (rules c.setup) (control_state rules c) seat command

@@ -9,12 +9,13 @@ use Rattle.cdb_base.specs.declared.event.Event.{Event}
 use Rattle.cdb_control.specs.Commands.{Outcome, outcome}
 use Rattle.cdb_control.specs.Done.{NoneShrinks}
 use Rattle.cdb_rules.proofs.Removed.{removed-one}
-use Rattle.cdb_control.specs.Room.{StoredList, StoredState, cost, room_of, lowered, raised}
+use Rattle.cdb_control.specs.Room.{StoredList, StoredState, cost, room_of, with_room, lowered, raised}
 use Rattle.cdb_control.specs.Kept.{HoldsRooms, rooms_at}
 use Rattle.cdb_control.proofs.Outcomes.{of_command}
-use Rattle.cdb_control.proofs.Refused.{Leaves}
+use Rattle.cdb_control.proofs.Refused.{leaves}
 use Rattle.cdb_control.specs.State.{State, redo_of, with_redo}
 use Rattle.cdb_commands.specs.declared.command.Command.{Command}
+use Rattle.cdb_commands.specs.ReplyView.{ReplyView}
 use Rattle.cdb_rules.specs.Rules.{Rules}
 
 -- ---- lists of redo lists
@@ -145,37 +146,70 @@ by_seat {P} seat own other i = ⊎_elim (λ same. subst P (sym same) own) (other
 less-at : (rooms : List ℕ) (i : ℕ) → get_or (map (λ r. r - 1) rooms) i 0 ≡ get_or rooms i 0 - 1
 less-at rooms i = grind (arith, common_steps, gets)
 
--- after a command there is as much less room as it can have taken
-pub HoldsRooms-next : (n space space' : ℕ) (rooms : List ℕ) (seat : ℕ) (was next : StoredState) (o : Outcome)
-    → HoldsRooms n space rooms was → seat - 1 < length was.state.redo → Spends seat was.state o → Leaves was.state seat o
-    → o.after ≡ next.state
-    → ((i : ℕ) → get_or was.capacities i 0 ≤ get_or next.capacities i 0) → space ≤ space'
-    → HoldsRooms (n + 1) space' (lowered rooms seat o.reply) next
-HoldsRooms-next n space space' rooms seat was next o room low spends leaves after grown more =
+-- a seat whose list is there has an end of its room
+end_there : {n space : ℕ} {was : StoredState} (seat : ℕ) (room_ends : List ℕ) → HoldsRooms n space (rooms_at n room_ends) was
+    → seat - 1 < length was.state.redo → seat - 1 < length room_ends
+end_there {n} seat room_ends room low =
+    let many = length-map room_ends (λ room_end. room_end - n) in
     let seats = room.seats in
-    let many = length-map rooms (λ r. r - 1) in
-    let own : room_of (lowered rooms seat o.reply) seat ≡ room_of rooms seat - cost o.reply =
-    get_or-set_same (map (λ r. r - 1) rooms) (seat - 1) (room_of rooms seat - cost o.reply) 0 (omega (arith, many, seats, low)) in
-    let other : (i : ℕ) → i ≢ seat - 1 → get_or (lowered rooms seat o.reply) i 0 ≡ get_or rooms i 0 - 1 =
-    λ i apart. get_or-set_other (map (λ r. r - 1) rooms) (seat - 1) i (room_of rooms seat - cost o.reply) 0 apart ∙ less-at rooms i in
-    let one = spends.one in
-    record {
-      seats = length-set (map (λ r. r - 1) rooms) (seat - 1) _ ∙ many ∙ seats ∙ sym leaves.lists ∙ ap (λ (t : State). length t.redo) after;
-      journal = by_seat seat
-          (λ some. let promised = room.journal (seat - 1) (omega (arith, own, some)) in omega (arith, own, some, promised, one, more))
-          (λ i apart some. let is = other i apart in let promised = room.journal i (omega (arith, is, some)) in omega (arith, is, some, promised, more));
-      lists = by_seat seat
-          (λ some.
-          let promised = room.lists (seat - 1) (omega (arith, own, some)) in
-          let long = ap (λ (t : State). length (redo_of t seat)) after in
-          let taken = spends.own in
-          omega (arith, own, some, promised, taken, long, grown (seat - 1)))
-          (λ i apart some.
-          let is = other i apart in
-          let promised = room.lists i (omega (arith, is, some)) in
-          let long = ap (λ (t : State). length (get_or t.redo i [])) (sym after) ∙ ap (λ (l : List Event). length l) (leaves.others i apart) in
-          omega (arith, is, some, promised, long, grown i));
-    }
+    omega (arith, many, seats, low)
+
+-- A command of a seat was carried out with this reply, the end of its room was lowered, and the journal is one entry longer.
+module _ {n space m : ℕ} {ends : List ℕ} {was : StoredState} {said : ReplyView} (rules : Rules) (seat : ℕ) (command : Command)
+    (room_ends : List ℕ) (next : StoredState) (room : HoldsRooms n space (rooms_at n room_ends) was)
+    (low : seat - 1 < length was.state.redo)
+    (done : (let o : Outcome = record { reply = said; after = next.state } in o) ≡ outcome rules was.state seat command)
+    (to : ends ≡ with_room room_ends seat (room_of room_ends seat - (cost said - 1))) (long : m ≡ n + 1) where
+  pub rooms-next : rooms_at m ends ≡ lowered (rooms_at n room_ends) seat (outcome rules was.state seat command).reply
+  rooms-next =
+      let one = subst (λ (o : Outcome). 1 ≤ cost o.reply) (sym done) (spends rules was.state seat low command).one in
+      ap (λ (k : ℕ). rooms_at k ends) long ∙ ap (λ (l : List ℕ). rooms_at (n + 1) l) to
+      ∙ sym (rooms-lowered room_ends (seat - 1) n (cost said) one (end_there seat room_ends room low))
+      ∙ ap (λ (o : Outcome). lowered (rooms_at n room_ends) seat o.reply) done
+
+  -- there is as much less room as the command can have taken
+  pub HoldsRooms-next : {space' : ℕ} → NoneShrinks was.capacities next.capacities → space ≤ space' → HoldsRooms m space' (rooms_at m ends) next
+  HoldsRooms-next {space'} grown more =
+      let rooms = rooms_at n room_ends in
+      let o = outcome rules was.state seat command in
+      let after = ap (λ (o : Outcome). o.after) (sym done) in
+      let kept = leaves rules was.state seat command in
+      let spent = spends rules was.state seat low command in
+      let seats = room.seats in
+      let many = length-map rooms (λ r. r - 1) in
+      let own : room_of (lowered rooms seat o.reply) seat ≡ room_of rooms seat - cost o.reply =
+      get_or-set_same (map (λ r. r - 1) rooms) (seat - 1) (room_of rooms seat - cost o.reply) 0 (omega (arith, many, seats, low)) in
+      let other : (i : ℕ) → i ≢ seat - 1 → get_or (lowered rooms seat o.reply) i 0 ≡ get_or rooms i 0 - 1 =
+      λ i apart. get_or-set_other (map (λ r. r - 1) rooms) (seat - 1) i (room_of rooms seat - cost o.reply) 0 apart ∙ less-at rooms i in
+      let one = spent.one in
+      subst (λ (k : ℕ). HoldsRooms k space' (rooms_at m ends) next) (sym long)
+      (subst (λ (l : List ℕ). HoldsRooms (n + 1) space' l next) (sym rooms-next)
+      (record {
+        seats = length-set (map (λ r. r - 1) rooms) (seat - 1) _ ∙ many ∙ seats ∙ sym kept.lists ∙ ap (λ (t : State). length t.redo) after;
+        journal = by_seat seat
+            (λ some. let promised = room.journal (seat - 1) (omega (arith, own, some)) in omega (arith, own, some, promised, one, more))
+            (λ i apart some. let is = other i apart in let promised = room.journal i (omega (arith, is, some)) in omega (arith, is, some, promised, more));
+        lists = by_seat seat
+            (λ some.
+            let promised = room.lists (seat - 1) (omega (arith, own, some)) in
+            let long = ap (λ (t : State). length (redo_of t seat)) after in
+            let taken = spent.own in
+            omega (arith, own, some, promised, taken, long, grown (seat - 1)))
+            (λ i apart some.
+            let is = other i apart in
+            let promised = room.lists i (omega (arith, is, some)) in
+            let long = ap (λ (t : State). length (get_or t.redo i [])) (sym after) ∙ ap (λ (l : List Event). length l) (kept.others i apart) in
+            omega (arith, is, some, promised, long, grown i));
+      }))
+
+-- the end of a room was raised
+pub rooms-more : {n space len m : ℕ} {ends : List ℕ} {was : StoredState} (seat count : ℕ) (room_ends : List ℕ) → HoldsRooms n space (rooms_at n room_ends) was
+    → seat - 1 < length was.state.redo → len ≡ n → m ≡ n → ends ≡ with_room room_ends seat (max (len + count) (room_of room_ends seat))
+    → rooms_at m ends ≡ raised (rooms_at n room_ends) seat count
+rooms-more {n} {ends = ends} seat count room_ends room low len same to =
+    ap (λ (k : ℕ). rooms_at k ends) same ∙ ap (λ (l : List ℕ). rooms_at n l) to
+    ∙ ap (λ (k : ℕ). rooms_at n (with_room room_ends seat (max (k + count) (room_of room_ends seat)))) len
+    ∙ rooms-raised room_ends (seat - 1) n count (end_there seat room_ends room low)
 
 zero_or_some : (r : ℕ) (G : Type 0) → (r ≡ 0 → G) → (0 < r → G) → G
 zero_or_some zero G none some = none refl

@@ -22,7 +22,7 @@ pub fn refused_changes_nothing()
 {}
 
 /// A command leaves the redo lists of the other seats alone.
-#[tactic(auto)]
+#[tactic(auto, using(crate::proofs::Refused::other_lists_stay))]
 pub fn other_lists_stay()
     ensures { ForOtherSeats (λ rules t seat command other.
         redo_of (obey rules t seat command) other ≡ redo_of t other) }
@@ -39,7 +39,7 @@ pub fn numbers_are_used_once()
 {}
 
 /// A command that acts on no run leaves the history and all redo lists alone, and `forget` the history.
-#[tactic(auto)]
+#[tactic(auto, using(crate::proofs::Refused::looks_keep_the_run, crate::proofs::Refused::forget_keeps_the_history))]
 pub fn looks_leave_the_run()
     ensures looks { ForCommands (λ rules t seat command. ActsOnNoRun command →
         KeepsRun t (obey rules t seat command)) }

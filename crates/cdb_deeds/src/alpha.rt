@@ -1,6 +1,7 @@
 //! What a step of the Alpha machine did.
 
-ghost use Rattle.std.specs.Prelude.{◌≡◌, ◌==◌, nat_lt};
+ghost use Rattle.std.specs.Prelude.{◌≡◌, ◌==◌, ◌<◌, nat_lt, length, IfSome};
+ghost use Rattle.std.specs.List.{position};
 ghost use Rattle.cdb_deeds.specs.Numbers.{number_of};
 ghost use Rattle.cdb_deeds.specs.AlphaDeeds.{register_of_value, register_of_later, judges};
 ghost use Rattle.cdb_deeds.specs.AlphaDeeds.{settles, query_deed, local_deed, alpha_deed};
@@ -11,28 +12,36 @@ use cdb_alpha::{Alpha, Place};
 use cdb_base::{Cell, Kind, Proc};
 use cdb_process::Process;
 
+/// The index of the first cell that was written in that round.
+fn index_of_write(cells: &[Cell], round: u32) -> Option<usize>
+    ensures index { result ≡ position (λ cell. cell.lrww == round) cells.now }
+    ensures within { IfSome result (λ index. index < length cells.now) }
+{
+    cells.iter().position(|it| it.lrww == round)
+}
+
 /// The number, from 1 on, of the first cell that was written in that round.
+#[tactic(auto, using(crate::proofs::Numbers::number_by_position))]
 fn number_of_write(cells: &[Cell], round: u32) -> Option<usize>
     ensures { result ≡ number_of (λ cell. cell.lrww == round) cells.now }
 {
-    for i in 0..cells.len() {
-        if cells[i].lrww == round {
-            return Some(i + 1);
-        }
-    }
-    None
+    Some(index_of_write(cells, round)? + 1)
+}
+
+/// The index of the first cell that was entered in a later round.
+fn index_of_later(cells: &[Cell], round: u32) -> Option<usize>
+    ensures index { result ≡ position (λ cell. nat_lt round cell.lre) cells.now }
+    ensures within { IfSome result (λ index. index < length cells.now) }
+{
+    cells.iter().position(|it| round < it.lre)
 }
 
 /// The number, from 1 on, of the first cell that was entered in a later round.
+#[tactic(auto, using(crate::proofs::Numbers::number_by_position))]
 fn number_of_later(cells: &[Cell], round: u32) -> Option<usize>
     ensures { result ≡ number_of (λ cell. nat_lt round cell.lre) cells.now }
 {
-    for i in 0..cells.len() {
-        if round < cells[i].lre {
-            return Some(i + 1);
-        }
-    }
-    None
+    Some(index_of_later(cells, round)? + 1)
 }
 
 /// The number of the register whose value is settled where the first pass ends: that of the cell that was written in

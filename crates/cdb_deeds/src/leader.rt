@@ -1,12 +1,13 @@
 //! What a step of the leader machine did.
 
-ghost use Rattle.std.specs.Prelude.{◌≡◌, ◌+◌, is_some, find, IfOk};
+ghost use Rattle.std.specs.Prelude.{◌≡◌, ◌+◌, ◌<◌, is_some, find, length, IfOk, IfSome};
+ghost use Rattle.std.specs.List.{position};
 ghost use Rattle.std.specs.Option.{option_and_then, option_flatten};
 ghost use Rattle.cdb_base.specs.Positions.{nth};
 ghost use Rattle.cdb_base.specs.Processes.{all_processes};
 ghost use Rattle.cdb_leader.specs.Inbox.{first_phase, second_phase, as_decision, is_agreed, agreed_leader};
 ghost use Rattle.cdb_leader.specs.Inbox.{backers, second_phase_from, decision_from, is_only_proposal};
-ghost use Rattle.cdb_leader.specs.Inbox.{first_phase_from, names as is_named};
+ghost use Rattle.cdb_leader.specs.Inbox.{if_from, first_phase_from, names as is_named};
 ghost use Rattle.cdb_process.specs.Values.{payload_value};
 ghost use Rattle.cdb_deeds.specs.LeaderDeeds.{number_from, number_of_estimate, number_of_proposal, number_of_learnt};
 ghost use Rattle.cdb_deeds.specs.LeaderDeeds.{number_in, messages_in, source_with, source_at, votes, sets_aux};
@@ -30,40 +31,56 @@ pub(crate) enum Phase {
     Second,
 }
 
+/// The index of the first message of the first phase of that round from that sender.
+fn index_of_first_phase(inbox: &[Received], round: u32, sender: Proc) -> Option<usize>
+    ensures index { result ≡ position (λ it. is_some (if_from sender (first_phase round) it)) inbox.now }
+    ensures within { IfSome result (λ index. index < length inbox.now) }
+{
+    inbox
+        .iter()
+        .position(|it| it.first_phase(round, sender).is_some())
+}
+
 /// The number, from 1 on, of the first message of the first phase of that round from that sender.
+#[tactic(auto, using(crate::proofs::Numbers::number_by_position))]
 fn number_of_first_phase(inbox: &[Received], round: u32, sender: Proc) -> Option<usize>
     ensures { result ≡ number_from sender (first_phase round) inbox.now }
 {
-    for i in 0..inbox.len() {
-        if inbox[i].first_phase(round, sender).is_some() {
-            return Some(i + 1);
-        }
-    }
-    None
+    Some(index_of_first_phase(inbox, round, sender)? + 1)
+}
+
+/// The index of the first message of the second phase of that round from that sender.
+fn index_of_second_phase(inbox: &[Received], round: u32, sender: Proc) -> Option<usize>
+    ensures index { result ≡ position (λ it. is_some (if_from sender (second_phase round) it)) inbox.now }
+    ensures within { IfSome result (λ index. index < length inbox.now) }
+{
+    inbox
+        .iter()
+        .position(|it| it.second_phase(round, sender).is_some())
 }
 
 /// The number, from 1 on, of the first message of the second phase of that round from that sender.
+#[tactic(auto, using(crate::proofs::Numbers::number_by_position))]
 fn number_of_second_phase(inbox: &[Received], round: u32, sender: Proc) -> Option<usize>
     ensures { result ≡ number_from sender (second_phase round) inbox.now }
 {
-    for i in 0..inbox.len() {
-        if inbox[i].second_phase(round, sender).is_some() {
-            return Some(i + 1);
-        }
-    }
-    None
+    Some(index_of_second_phase(inbox, round, sender)? + 1)
+}
+
+/// The index of the first message with a decision from that sender.
+fn index_of_decision(inbox: &[Received], sender: Proc) -> Option<usize>
+    ensures index { result ≡ position (λ it. is_some (if_from sender as_decision it)) inbox.now }
+    ensures within { IfSome result (λ index. index < length inbox.now) }
+{
+    inbox.iter().position(|it| it.decision(sender).is_some())
 }
 
 /// The number, from 1 on, of the first message with a decision from that sender.
+#[tactic(auto, using(crate::proofs::Numbers::number_by_position))]
 fn number_of_decision(inbox: &[Received], sender: Proc) -> Option<usize>
     ensures { result ≡ number_from sender as_decision inbox.now }
 {
-    for i in 0..inbox.len() {
-        if inbox[i].decision(sender).is_some() {
-            return Some(i + 1);
-        }
-    }
-    None
+    Some(index_of_decision(inbox, sender)? + 1)
 }
 
 /// How many senders name that process as the leader of the machine's round.
@@ -125,12 +142,10 @@ fn proposer(machine: &Leader) -> Option<Proc>
         (λ m. is_some (option_flatten (second_phase_from machine.now.round m machine.now.inbox)))
         all_processes }
 {
-    for sender in Proc::all() {
-        if proposes(machine, sender) {
-            return Some(sender);
-        }
-    }
-    None
+    Proc::all()
+        .iter()
+        .copied()
+        .find(|sender| proposes(machine, *sender))
 }
 
 /// The number of the message whose value a process adopts where the second phase ends; none where no message has a
@@ -153,12 +168,10 @@ fn has_decided(machine: &Leader, sender: Proc) -> bool
 fn decider(machine: &Leader) -> Option<Proc>
     ensures { result ≡ find (λ m. is_some (decision_from m machine.now.inbox)) all_processes }
 {
-    for sender in Proc::all() {
-        if has_decided(machine, sender) {
-            return Some(sender);
-        }
-    }
-    None
+    Proc::all()
+        .iter()
+        .copied()
+        .find(|sender| has_decided(machine, *sender))
 }
 
 /// The number of the message whose decision a process adopts; none where no decision came.

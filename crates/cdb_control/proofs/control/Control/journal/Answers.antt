@@ -7,7 +7,5 @@ use Rattle.cdb_control.proofs.control.Control.journal.Goals as goal
 pub returns-clause-headline : goal.returns-clause-headline
 returns-clause-headline g c =
     let run = g.R.Runs in
-    let laws = g.met.R.Runs in
-    let i = c.self.inside in
     subst (λ (v : Journaled). Headline run.rules run.same_state v.setup v.seats v.journal) c.self.view_is
-    (replayed-headline run.rules run.same_state laws.lawful laws.histories i.state.state.setup i.seats i.journal.items i.state.state c.self.invariant.0)
+    (replayed-headline run.rules run.same_state g.met.R.Runs.lawful g.met.R.Runs.histories c.self.invariant.0)

@@ -26,7 +26,4 @@ returns-clause-opened g c =
 
 pub returns-clause-headline : goal.returns-clause-headline
 returns-clause-headline g c =
-    let run = g.R.Runs in
-    let laws = g.met.R.Runs in
-    let made = c.in-Ok.state.state in
-    replayed-headline run.rules run.same_state laws.lawful laws.histories made.setup c.args.seats c.new.result.items made (invariant_of-result g c).0
+    replayed-headline g.R.Runs.rules g.R.Runs.same_state g.met.R.Runs.lawful g.met.R.Runs.histories (invariant_of-result g c).0
