@@ -1,23 +1,18 @@
 -- A run that is played again along its history.
 use Rattle.std.proofs.Common.{◌≡◌, ℕ, suc, ◌+◌, ◌-◌, arith, List, [], ◌∷◌, ◌++◌, take, drop, Some, slice_get, IsTrue, codes, refl, sym, ap, ◌∙◌, subst, add-one}
-use Rattle.std.specs.Option.{option_map_or}
 use Rattle.std.proofs.lemmas.List.{take-append-drop}
 use Rattle.cdb_base.specs.declared.event.Event.{Event}
 use Rattle.cdb_causal.specs.StandingEvents.{IsStanding}
-use Rattle.cdb_control.specs.Commands.{decides}
 use Rattle.cdb_rules.proofs.Beginnings.{one_more}
 use Rattle.cdb_rules.specs.Lawful.{KeepHistories}
 use Rattle.cdb_rules.specs.Rules.{Rules}
 use Rattle.cdb_rules.specs.RunView.{RunView}
 use Rattle.cdb_rules.specs.Runs.{with_event, with_history}
 use Rattle.cdb_setup.specs.Parts.{Parts, AreInRange}
-use Rattle.cdb_text.specs.Events.{event_text}
-use Rattle.cdb_text.specs.Texts.{decides_text}
 use Rattle.cdb_explain.proofs.SameCauses.{same_causes}
 use Rattle.cdb_deeds.specs.Deeds.{deed_in}
 use Rattle.cdb_deeds.specs.declared.deed.Deed.{Deed}
-use Rattle.cdb_explain.specs.DeedTexts.{deed_text}
-use Rattle.cdb_explain.specs.Explanations.{because_text, deed_at, detail_text, line_at, line_text, run_after, whole_text}
+use Rattle.cdb_explain.specs.Explanations.{deed_at, line_at, line_text, run_after, whole_text}
 use Rattle.cdb_explain.specs.declared.line.Causes.{Causes}
 use Rattle.cdb_explain.specs.declared.line.Causes.TheVariants.{Shown, Hidden}
 
@@ -43,11 +38,7 @@ module _ (rules : Parts → Rules) (SameState : Parts → List Event → List Ev
   pub whole_of_last : (causes : Causes) (did : Deed) → IsStanding run.history
       → whole_text rules causes run did (run_after run (suc i)) event ≡ whole_text rules causes (run_after run (suc i)) did (run_after run (suc i)) event
   whole_of_last Hidden did standing = refl
-  whole_of_last Shown did standing =
-      let after = run_after run (suc i) in
-      let same = same_causes run.setup.processes run.history standing i event at in
-      ap (λ causes. event_text event ++ detail_text rules after event
-      ++ decides_text (decides (rules after.setup) after.history event) ++ deed_text did ++ because_text causes) (sym same)
+  whole_of_last Shown did standing = rw (same_causes run.setup.processes run.history standing i event at) refl
 
   pub next_is_after : (later : RunView) → later ≡ with_event again event → later ≡ run_after run (suc i)
   next_is_after later is = next_along later is ∙ ap (λ (n : ℕ). with_history run (take n run.history)) (add-one i)
@@ -59,9 +50,4 @@ module _ (rules : Parts → Rules) (SameState : Parts → List Event → List Ev
   pub its_line : (causes : Causes) → IsStanding run.history → (later : RunView) → later ≡ with_event again event
       → line_at rules causes run (suc i) ≡ line_text rules causes later (deed_in again event) later event
   its_line causes standing later is =
-      line_there ∙ ap (λ did. line_text rules causes run did (run_after run (suc i)) event) deed_along
-      ∙ ap (λ (t : List ℕ). t ++ codes "\n") (whole_of_last causes (deed_in again event) standing)
-      ∙ ap (λ r. line_text rules causes r (deed_in again event) r event) (sym (next_is_after later is))
-    where
-      line_there : line_at rules causes run (suc i) ≡ line_text rules causes run (deed_at run (suc i)) (run_after run (suc i)) event
-      line_there = ap (λ o. option_map_or (line_text rules causes run (deed_at run (suc i)) (run_after run (suc i))) o []) at
+      rw (deed_along, at, next_is_after later is) (ap (λ (t : List ℕ). t ++ codes "\n") (whole_of_last causes (deed_in again event) standing))

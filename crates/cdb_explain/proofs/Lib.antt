@@ -2,5 +2,4 @@ pub mod Returned
 pub mod Flags
 pub mod SameCauses
 pub mod Along
-pub mod Bounded
 pub mod CarriedOut

@@ -1,5 +1,5 @@
 -- A step that was asked for, and what was answered.
-use Rattle.std.proofs.Common.{◌≡◌, ℕ, List, Result, Ok, Err, refl, ap, sym, subst}
+use Rattle.std.proofs.Common.{◌≡◌, ℕ, List, Result, Ok, Err, refl, ap}
 use Rattle.std.specs.Prelude.{[], IfErr}
 use Rattle.cdb_base.specs.declared.name.StepId.{StepId}
 use Rattle.cdb_base.specs.declared.refusal.Refusal.{Refusal}
@@ -13,7 +13,7 @@ use Rattle.cdb_streams.specs.declared.buffer.OutputFault.{OutputFault}
 use Rattle.cdb_streams.specs.declared.buffer.OutputFault.TheVariants as output
 use Rattle.cdb_streams.specs.declared.fault.PlayFault.TheVariants as play
 use Rattle.cdb_explain.specs.declared.fault.AnswerFault.{AnswerFault}
-use Rattle.cdb_explain.specs.declared.fault.AnswerFault.TheVariants.{NoStep, NoValue, TooManyEvents, NotFound, DoesNotHold, Play}
+use Rattle.cdb_explain.specs.declared.fault.AnswerFault.TheVariants.{NoStep, NoValue, Play}
 use Rattle.cdb_explain.specs.StepFaults.{IsFaultOfLeft, IsFaultOfStep}
 use Rattle.cdb_setup.specs.declared.fault.SetupFault.{SetupFault}
 use Rattle.cdb_rules.specs.RunView.{RunView}
@@ -34,11 +34,9 @@ pub fault_left : (rules : Parts → Rules) (json : List ℕ) (old new : Stream) 
 fault_left rules json old new Missing Valueless run left (Ok done) none = tt
 fault_left rules json old new Missing Valueless run left (Err NoStep) missing = (run, left, missing)
 fault_left rules json old new Missing Valueless run left (Err NoValue) none = (run, left, none)
-fault_left rules json old new Missing Valueless run left (Err TooManyEvents) none = absurd none
-fault_left rules json old new Missing Valueless run left (Err (NotFound walks)) none = absurd none
-fault_left rules json old new Missing Valueless run left (Err DoesNotHold) none = absurd none
 fault_left rules json old new Missing Valueless run left (Err (Play fault)) (why, is) =
-    subst (IsFaultOfPlay json old new) (sym is) (output_fault why json old new (left.2.setup, left.2.encodes))
+    rw is (output_fault why json old new (left.2.setup, left.2.encodes))
+fault_left rules json old new Missing Valueless run left (Err fault) none = absurd none
 
 -- the text is whole before any of it is written
 pub text_ends : (A : Type 0) (why : OutputFault) → answer_ending {A = A} (Err (Play (of_output why))) ≡ whole_ending {A = A} (Err why)
@@ -49,24 +47,14 @@ text_ends A (output.NoMemory refused) = refl
 module _ (Missing Valueless : Type 0) where
   pub is_no_setup : (result : Result (Unit {0}) AnswerFault) (fault : SetupFault)
       → IfErr result (IsFaultOfStep Missing Valueless) → result ≡ Err (Play (play.Setup fault)) → ⊥
-  is_no_setup (Ok done) fault is same = cc
-  is_no_setup (Err NoStep) fault is same = cc
-  is_no_setup (Err NoValue) fault is same = cc
-  is_no_setup (Err TooManyEvents) fault is same = cc
-  is_no_setup (Err (NotFound walks)) fault is same = cc
-  is_no_setup (Err DoesNotHold) fault is same = cc
   is_no_setup (Err (Play made)) fault (output.Write, is) same = cc
   is_no_setup (Err (Play made)) fault (output.NoMemory refused, is) same = cc
+  is_no_setup result fault is same = cc
 
   pub reads_none : (result : Result (Unit {0}) AnswerFault) → IfErr result (IsFaultOfStep Missing Valueless) → result ≡ Err (Play play.Read) → ⊥
-  reads_none (Ok done) is same = cc
-  reads_none (Err NoStep) is same = cc
-  reads_none (Err NoValue) is same = cc
-  reads_none (Err TooManyEvents) is same = cc
-  reads_none (Err (NotFound walks)) is same = cc
-  reads_none (Err DoesNotHold) is same = cc
   reads_none (Err (Play made)) (output.Write, is) same = cc
   reads_none (Err (Play made)) (output.NoMemory refused, is) same = cc
+  reads_none result is same = cc
 
 pub no_err : {A E : Type 0} (value : A) (error : E) → (let result : Result A E = Ok value in result) ≡ Err error → ⊥
 no_err value error same = cc

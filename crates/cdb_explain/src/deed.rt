@@ -4,7 +4,7 @@ ghost use Rattle.cdb_deeds.specs.declared.deed.Deed.TheVariants.{Votes, SettlesI
 ghost use Rattle.cdb_explain.specs.DeedTexts.{by_text, deed_text, named_text, register_text, source_text};
 ghost use Rattle.cdb_text.specs.Pushes.{Pushes};
 ghost use Rattle.std.specs.List.{flat_map};
-ghost use Rattle.std.specs.Prelude.{◌++◌, codes, decimal};
+ghost use Rattle.std.specs.Prelude.{◌++◌, decimal};
 
 use cdb_base::{MsgName, Proc, Val};
 use cdb_deeds::{Deed, Messages, Source};

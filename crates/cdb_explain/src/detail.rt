@@ -4,7 +4,7 @@ ghost use Rattle.cdb_explain.specs.Explanations.{cell_detail, detail_text, kind_
 ghost use Rattle.cdb_message.specs.Mail.{payload_of};
 ghost use Rattle.cdb_rules.specs.ByRules.{cell_in, mail_in};
 ghost use Rattle.cdb_text.specs.Pushes.{Pushes};
-ghost use Rattle.std.specs.Prelude.{◌≡◌, Some};
+ghost use Rattle.std.specs.Prelude.{Some};
 
 use cdb_base::{Cell, Event, Kind, MsgName, Proc, Reg};
 use cdb_rules::Runs;

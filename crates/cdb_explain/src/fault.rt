@@ -1,7 +1,10 @@
 //! Why nothing was written of what was asked about a run.
 
-ghost use Rattle.std.specs.Prelude.{Some, codes};
+ghost use Rattle.std.specs.Prelude.{◌≡◌, Some, codes};
 ghost use Rattle.cdb_explain.specs.FaultTexts.{answer_fault_text};
+ghost use Rattle.cdb_explain.specs.declared.fault.AnswerFault.TheVariants.{Play as of_play};
+ghost use Rattle.cdb_streams.specs.Faults.{of_output, of_setup};
+ghost use Rattle.cdb_streams.specs.declared.fault.PlayFault.TheVariants as play;
 
 use cdb_base::{NoMemory, Refusal};
 use cdb_setup::SetupFault;
@@ -48,10 +51,7 @@ impl fmt::Display for AnswerFault {
 impl Error for AnswerFault {}
 
 impl From<PlayFault> for AnswerFault {
-    ghost use Rattle.std.specs.Prelude.{◌≡◌};
-    ghost use Rattle.cdb_explain.specs.declared.fault.AnswerFault.TheVariants.{Play as play};
-
-    ghost from_gives = { λ fault made. made ≡ play fault };
+    ghost from_gives = { λ fault made. made ≡ of_play fault };
 
     fn from(fault: PlayFault) -> Self {
         AnswerFault::Play(fault)
@@ -59,11 +59,7 @@ impl From<PlayFault> for AnswerFault {
 }
 
 impl From<SetupFault> for AnswerFault {
-    ghost use Rattle.std.specs.Prelude.{◌≡◌};
-    ghost use Rattle.cdb_explain.specs.declared.fault.AnswerFault.TheVariants.{Play as play};
-    ghost use Rattle.cdb_streams.specs.Faults.{of_setup};
-
-    ghost from_gives = { λ fault made. made ≡ play (of_setup fault) };
+    ghost from_gives = { λ fault made. made ≡ of_play (of_setup fault) };
 
     fn from(fault: SetupFault) -> Self {
         AnswerFault::Play(PlayFault::from(fault))
@@ -71,11 +67,7 @@ impl From<SetupFault> for AnswerFault {
 }
 
 impl From<NoMemory> for AnswerFault {
-    ghost use Rattle.std.specs.Prelude.{◌≡◌};
-    ghost use Rattle.cdb_explain.specs.declared.fault.AnswerFault.TheVariants.{Play as play};
-    ghost use Rattle.cdb_streams.specs.declared.fault.PlayFault.TheVariants.{NoMemory as no_memory};
-
-    ghost from_gives = { λ refused made. made ≡ play (no_memory refused) };
+    ghost from_gives = { λ refused made. made ≡ of_play (play.NoMemory refused) };
 
     fn from(refused: NoMemory) -> Self {
         AnswerFault::Play(PlayFault::NoMemory(refused))
@@ -83,11 +75,7 @@ impl From<NoMemory> for AnswerFault {
 }
 
 impl From<OutputFault> for AnswerFault {
-    ghost use Rattle.std.specs.Prelude.{◌≡◌};
-    ghost use Rattle.cdb_explain.specs.declared.fault.AnswerFault.TheVariants.{Play as play};
-    ghost use Rattle.cdb_streams.specs.Faults.{of_output};
-
-    ghost from_gives = { λ fault made. made ≡ play (of_output fault) };
+    ghost from_gives = { λ fault made. made ≡ of_play (of_output fault) };
 
     fn from(fault: OutputFault) -> Self {
         AnswerFault::Play(PlayFault::from(fault))

@@ -82,22 +82,6 @@ pub fn push_count(text: &mut String, count: usize, all: usize) -> Result<(), All
     text.push_str(" events\n")
 }
 
-/// Adds the lines of the flagged events, with their causes, and then how many they are of how many.
-fn push_flagged<T: HasDeeds>(
-    alloc: Global,
-    text: &mut String,
-    run: &Trace,
-    flags: &[bool],
-) -> Result<(), NoMemory>
-    requires valid { IsInOrder T.rules run.now }
-    requires a_flag_each { length flags.now ≡ length run.now.history }
-    ensures { Pushes result text.old text.new (lines_text T.rules run.now flags.now) }
-{
-    let count = push_lines::<T>(alloc, text, Causes::Shown, run, flags)?;
-    push_count(text, count, run.events().len())?;
-    Ok(())
-}
-
 /// The lines of the flagged events, with their causes, and then how many they are of how many.
 fn text_of_flagged<T: HasDeeds>(
     alloc: Global,
@@ -109,7 +93,8 @@ fn text_of_flagged<T: HasDeeds>(
     ensures { IfOk result (λ text. text.items ≡ lines_text T.rules run.now flags.now) }
 {
     let mut text = String::new(alloc);
-    push_flagged::<T>(alloc, &mut text, run, flags)?;
+    let count = push_lines::<T>(alloc, &mut text, Causes::Shown, run, flags)?;
+    push_count(&mut text, count, run.events().len())?;
     Ok(text.into_bytes())
 }
 

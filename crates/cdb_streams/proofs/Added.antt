@@ -1,14 +1,14 @@
 -- Bytes that are added one piece after the other.
-use Rattle.std.proofs.Common.{false, not, ◌&&◌, ◌==◌, ◌≡◌, ◌≢◌, ℕ, ◌+◌, ◌-◌, ◌<◌, List, [], ◌∷◌, ◌++◌, length, get_or, take}
-use Rattle.std.proofs.Common.{drop, add-one, append-nil, Option, refl, sym, ap, subst, ◌∙◌, append_assoc, take-append-drop}
+use Rattle.std.proofs.Common.{false, not, ◌&&◌, ◌==◌, ◌≡◌, ◌≢◌, ℕ, ◌+◌, ◌-◌, ◌<◌, List, ◌∷◌, ◌++◌, length, get_or, take}
+use Rattle.std.proofs.Common.{drop, add-one, Option, refl, sym, ap, ◌∙◌, append_assoc, take-append-drop, arith}
 use Rattle.std.specs.Prelude.{Ok}
 use Rattle.std.specs.List.{flat_map}
 use Rattle.std.specs.Io.KnownBytes.{Appends, Keeps}
-use Rattle.std.proofs.KnownBytes.{Appends-nil, Appends-trans, Appends-kept}
+use Rattle.std.proofs.KnownBytes.{Appends-trans, Appends-kept}
 use Rattle.std.proofs.lemmas.Bool.{ne_eqb}
-use Rattle.std.proofs.lemmas.List.{take_rest, take_more}
-use Rattle.std.proofs.lemmas.List.Concat.{flat_map-cons}
-use Rattle.std.proofs.lemmas.Grind.{flat_map-append}
+use Rattle.std.proofs.lemmas.List.{take_rest}
+use Rattle.std.proofs.lemmas.Grind.{common_steps, flat_map-append}
+use Rattle.std.proofs.lemmas.Option.{gets}
 use Rattle.std.proofs.Math.Seq.{take-add, drop-cons}
 use Rattle.cdb_streams.specs.Streams.{AddsBeginning, is_failure}
 
@@ -20,9 +20,7 @@ so_far old now new bytes done e kept = (take done bytes, drop done bytes, sym (t
 pub one_piece : (old now new : Option (List ℕ)) (bytes : List ℕ) (done count : ℕ) → Appends old now (take done bytes)
     → Appends now new (take count (take (length bytes - done) (drop done bytes))) → Appends old new (take (done + count) bytes)
 one_piece old now new bytes done count e f =
-    let rest : take (length bytes - done) (drop done bytes) ≡ drop done bytes = take_rest bytes done in
-    let more : Appends now new (take count (drop done bytes)) = subst (λ (t : List ℕ). Appends now new (take count t)) rest f in
-    subst (Appends old new) (sym (take-add done count bytes)) (Appends-trans old now new (take done bytes) (take count (drop done bytes)) e more)
+    rw (take-add done count bytes) (Appends-trans old now new (take done bytes) (take count (drop done bytes)) e (rw take_rest at f))
 
 -- a write that took something did not fail
 pub no_failure : (count : ℕ) (piece : List ℕ) → count ≢ 0 → is_failure {E = ℕ} (Ok count) piece ≡ false
@@ -41,24 +39,9 @@ parted {X} xs i d below = sym (take-append-drop i xs) ∙ ap (λ (ys : List X). 
 -- the same of their texts
 pub parted_texts : {X : Type 0} (text : X → List ℕ) (xs : List X) (i : ℕ) (d : X) → i < length xs
     → flat_map text xs ≡ flat_map text (take i xs) ++ (text (get_or xs i d) ++ flat_map text (drop (i + 1) xs))
-parted_texts text xs i d below =
-    ap (flat_map text) (parted xs i d below) ∙ flat_map-append text (take i xs) (get_or xs i d ∷ drop (i + 1) xs)
-    ∙ ap (λ (bs : List ℕ). flat_map text (take i xs) ++ bs) (flat_map-cons text (get_or xs i d) (drop (i + 1) xs))
-
--- nothing is a beginning
-pub nothing : (held : Option (List ℕ)) (text : List ℕ) → AddsBeginning held held text
-nothing held text = ([], text, refl, Appends-nil held)
+parted_texts text xs i d below = ap (flat_map text) (parted xs i d below) ∙ flat_map-append text (take i xs) (get_or xs i d ∷ drop (i + 1) xs)
 
 -- the texts of the items up to one, and its own
 pub one_more_text : {X : Type 0} (text : X → List ℕ) (xs : List X) (i : ℕ) (d : X) → i < length xs
     → flat_map text (take (i + 1) xs) ≡ flat_map text (take i xs) ++ text (get_or xs i d)
-one_more_text text xs i d below =
-    ap (flat_map text) (take_more xs i d below) ∙ flat_map-append text (take i xs) (get_or xs i d ∷ [])
-    ∙ ap (λ (bs : List ℕ). flat_map text (take i xs) ++ bs) (append-nil (text (get_or xs i d)))
-
--- the text of one item more is written
-pub one_text : {X : Type 0} (text : X → List ℕ) (old now new : Option (List ℕ)) (xs : List X) (i : ℕ) (d : X)
-    → i < length xs → Appends old now (flat_map text (take i xs)) → Appends now new (text (get_or xs i d))
-    → Appends old new (flat_map text (take (i + 1) xs))
-one_text text old now new xs i d below so more =
-    subst (Appends old new) (sym (one_more_text text xs i d below)) (Appends-trans old now new (flat_map text (take i xs)) (text (get_or xs i d)) so more)
+one_more_text text xs i d below = grind (arith, common_steps, gets)

@@ -3,5 +3,3 @@ pub mod PiecesPut
 pub mod CutLines
 pub mod LinesRead
 pub mod StreamEnds
-pub mod Numbered
-pub mod Held

@@ -1,6 +1,6 @@
 -- Texts that are put one after the other.
 use Rattle.std.proofs.Common.{◌≡◌, ℕ, ◌+◌, ◌<◌, List, [], ◌++◌, length, take, drop, get_or, Result, Ok, Err, refl}
-use Rattle.std.proofs.Common.{inr, sym, ap, subst, ◌∙◌, append_assoc, append-nil, length-append, arith}
+use Rattle.std.proofs.Common.{inr, sym, ap, ◌∙◌, append_assoc, append-nil, length-append, arith}
 use Rattle.std.proofs.KnownBytes.{Appends-nil, Appends-trans}
 use Rattle.cdb_streams.specs.Buffers.{AreWholePieces, IsPut}
 use Rattle.cdb_streams.specs.PiecesPut.{PutsBeginning, Puts}
@@ -36,9 +36,7 @@ module _ {W : Type 0} (stream : W → Stream) where
       record {
         sent = a.sent ++ b.sent;
         pieces = pieces_and_pieces a.sent b.sent a.pieces b.pieces;
-        is =
-            sym (append_assoc held first second) ∙ ap (λ (t : List ℕ). t ++ second) a.is ∙ append_assoc a.sent middle second
-            ∙ ap (λ (t : List ℕ). a.sent ++ t) b.is ∙ sym (append_assoc a.sent b.sent left);
+        is = rw (← append_assoc held first second, a.is, append_assoc a.sent middle second, b.is) (sym (append_assoc a.sent b.sent left));
         taken = (Appends-trans (stream old).bytes (stream now).bytes (stream new).bytes a.sent b.sent a.taken.0 b.taken.0, b.taken.1 ∙ a.taken.1);
       }
 
@@ -48,8 +46,7 @@ module _ {W : Type 0} (stream : W → Stream) where
       → Fails stream old new (held ++ all)
   fails_after old now new held middle first text rest more all a is whole fails = (
     beginning_of_all (stream old).bytes (stream now).bytes (stream new).bytes a.sent text more (held ++ all) a.taken.0
-        (ap (λ (t : List ℕ). held ++ t) whole ∙ sym (append_assoc held first rest) ∙ ap (λ (t : List ℕ). t ++ rest) a.is
-        ∙ append_assoc a.sent middle rest ∙ ap (λ (t : List ℕ). a.sent ++ t) is) fails.0,
+        (rw (whole, ← append_assoc held first rest, a.is, append_assoc a.sent middle rest, is) refl) fails.0,
     fails.1 ∙ ap one_more a.taken.1,
   )
 
@@ -94,8 +91,7 @@ module _ {W : Type 0} (stream : W → Stream) where
         (
           part.put.sent,
           left ++ part.rest,
-          part.whole ∙ ap (λ (t : List ℕ). t ++ part.rest) part.put.is
-              ∙ append_assoc part.put.sent left part.rest,
+          rw (part.whole, part.put.is) (append_assoc part.put.sent left part.rest),
           part.put.pieces,
           part.put.taken,
         ),
@@ -110,8 +106,7 @@ module _ {W : Type 0} (stream : W → Stream) where
       → i < length xs → Put old held now middle (flat_map texts (take i xs)) → Put now middle new left (texts (get_or xs i d))
       → Put old held new left (flat_map texts (take (i + 1) xs))
   put_item texts old now new held middle left xs i d below a b =
-      subst (Put old held new left) (sym (one_more_text texts xs i d below))
-      (put_more old now new held middle left (flat_map texts (take i xs)) (texts (get_or xs i d)) a b)
+      rw (one_more_text texts xs i d below) (put_more old now new held middle left (flat_map texts (take i xs)) (texts (get_or xs i d)) a b)
 
   -- the text of one item is cut short
   pub cut_at_item : {X : Type 0} (A : Type 0) (why : OutputFault) (texts : X → List ℕ) (old now new : W)

@@ -1,13 +1,17 @@
 //! A buffer between what is put and a writer.
 
 ghost use Rattle.std.specs.Prelude.{◌≡◌, ◌↔◌, ℕ, ◌+◌, ◌<◌, ◌≤◌, List, [], ◌++◌, take};
-ghost use Rattle.std.specs.Prelude.{length, IsTrue, MatchBool, IfOk, OnOk, OnErr};
+ghost use Rattle.std.specs.Prelude.{length, IsTrue, MatchBool, Some, IfOk, OnOk, OnErr, codes};
 ghost use Rattle.std.specs.List.{flat_map};
+ghost use Rattle.cdb_base.specs.Memory.{no_memory};
 ghost use Rattle.cdb_commands.specs.ReplyView.{reply_view};
 ghost use Rattle.cdb_text.specs.Texts.{text_of};
 ghost use Rattle.cdb_text.specs.declared.text.short_report.TheConstants.{MOST_LINE};
 ghost use Rattle.cdb_streams.specs.Endings.{whole_ending};
+ghost use Rattle.cdb_streams.specs.FaultTexts.{play_fault_text};
+ghost use Rattle.cdb_streams.specs.Faults.{of_output};
 ghost use Rattle.cdb_streams.specs.Written.{IsWritten, Only};
+ghost use Rattle.cdb_streams.specs.declared.buffer.OutputFault.TheVariants as output;
 
 use crate::fault::PlayFault;
 use crate::sink::{Failed, Sink, write_all};
@@ -35,10 +39,6 @@ pub enum OutputFault {
 
 /// The text of the fault of a play.
 impl fmt::Display for OutputFault {
-    ghost use Rattle.std.specs.Prelude.{Some, codes};
-    ghost use Rattle.cdb_streams.specs.FaultTexts.{play_fault_text};
-    ghost use Rattle.cdb_streams.specs.Faults.{of_output};
-
     ghost output = { λ fault. Some (play_fault_text (of_output fault) (codes "the input")) };
 
     fn fmt<W: fmt::Write>(&self, f: &mut fmt::Formatter<W>) -> fmt::Result {
@@ -50,10 +50,7 @@ impl fmt::Display for OutputFault {
 impl Error for OutputFault {}
 
 impl From<Failed> for OutputFault {
-    ghost use Rattle.std.specs.Prelude.{◌≡◌};
-    ghost use Rattle.cdb_streams.specs.declared.buffer.OutputFault.TheVariants.{Write as write};
-
-    ghost from_gives = { λ _ made. made ≡ write };
+    ghost from_gives = { λ _ made. made ≡ output.Write };
 
     fn from(_error: Failed) -> Self {
         OutputFault::Write
@@ -61,10 +58,7 @@ impl From<Failed> for OutputFault {
 }
 
 impl From<NoMemory> for OutputFault {
-    ghost use Rattle.std.specs.Prelude.{◌≡◌};
-    ghost use Rattle.cdb_streams.specs.declared.buffer.OutputFault.TheVariants.{NoMemory as out_of_memory};
-
-    ghost from_gives = { λ refused made. made ≡ out_of_memory refused };
+    ghost from_gives = { λ refused made. made ≡ output.NoMemory refused };
 
     fn from(refused: NoMemory) -> Self {
         OutputFault::NoMemory(refused)
@@ -72,11 +66,7 @@ impl From<NoMemory> for OutputFault {
 }
 
 impl From<AllocError> for OutputFault {
-    ghost use Rattle.std.specs.Prelude.{◌≡◌};
-    ghost use Rattle.cdb_base.specs.Memory.{no_memory};
-    ghost use Rattle.cdb_streams.specs.declared.buffer.OutputFault.TheVariants.{NoMemory as out_of_memory};
-
-    ghost from_gives = { λ _ made. made ≡ out_of_memory no_memory };
+    ghost from_gives = { λ _ made. made ≡ output.NoMemory no_memory };
 
     fn from(error: AllocError) -> Self {
         OutputFault::NoMemory(NoMemory::from(error))

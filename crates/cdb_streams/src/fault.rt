@@ -1,7 +1,12 @@
 //! Why a play or a race ended early.
 
-ghost use Rattle.std.specs.Prelude.{Some, codes};
+ghost use Rattle.std.specs.Prelude.{◌≡◌, Some, codes};
+ghost use Rattle.cdb_base.specs.Memory.{no_memory};
 ghost use Rattle.cdb_streams.specs.FaultTexts.{play_fault_text, race_fault_text};
+ghost use Rattle.cdb_streams.specs.Faults.{of_output, of_reading, of_script, of_setup};
+ghost use Rattle.cdb_streams.specs.RaceFaults.{race_fault_of_output, race_fault_of_setup};
+ghost use Rattle.cdb_streams.specs.declared.fault.PlayFault.TheVariants as play;
+ghost use Rattle.cdb_streams.specs.declared.fault.RaceFault.TheVariants as race;
 
 use crate::buffer::OutputFault;
 use crate::script::ScriptFault;
@@ -50,36 +55,6 @@ pub enum RaceFault {
     Stopped(u8),
 }
 
-/// This line of this script, which is no command, and its fault.
-#[derive(Clone, Copy)]
-struct BadLine(usize, usize, LineFault);
-
-impl fmt::Display for BadLine {
-    ghost use Rattle.cdb_streams.specs.FaultTexts.{script_line_text};
-
-    ghost output = { λ bad. Some (script_line_text bad.0 bad.1 bad.2) };
-
-    fn fmt<W: fmt::Write>(&self, f: &mut fmt::Formatter<W>) -> fmt::Result {
-        let BadLine(script, line, fault) = self;
-        write!(f, "script {script} line {line} {fault}")
-    }
-}
-
-/// This script, which has too many bytes.
-#[derive(Clone, Copy)]
-struct LongScript(usize);
-
-impl fmt::Display for LongScript {
-    ghost use Rattle.cdb_streams.specs.FaultTexts.{long_script_text};
-
-    ghost output = { λ long. Some (long_script_text long.0) };
-
-    fn fmt<W: fmt::Write>(&self, f: &mut fmt::Formatter<W>) -> fmt::Result {
-        let LongScript(script) = self;
-        write!(f, "script {script} too long")
-    }
-}
-
 /// The text that the program reports, without the end of the line; the program names what could not be read, which here
 /// is the input.
 impl fmt::Display for PlayFault {
@@ -87,11 +62,11 @@ impl fmt::Display for PlayFault {
 
     fn fmt<W: fmt::Write>(&self, f: &mut fmt::Formatter<W>) -> fmt::Result {
         match self {
-            PlayFault::Setup(fault) => fmt::Display::fmt(fault, f),
+            PlayFault::Setup(fault) => write!(f, "{fault}"),
             PlayFault::Line(script, line, fault) => {
-                fmt::Display::fmt(&BadLine(*script, *line, *fault), f)
+                write!(f, "script {script} line {line} {fault}")
             }
-            PlayFault::ScriptTooLong(script) => fmt::Display::fmt(&LongScript(*script), f),
+            PlayFault::ScriptTooLong(script) => write!(f, "script {script} too long"),
             PlayFault::Read => f.write_str("cannot read the input"),
             PlayFault::Write => f.write_str("output failed"),
             PlayFault::NoMemory(_) => f.write_str("no memory"),
@@ -107,11 +82,11 @@ impl fmt::Display for RaceFault {
 
     fn fmt<W: fmt::Write>(&self, f: &mut fmt::Formatter<W>) -> fmt::Result {
         match self {
-            RaceFault::Setup(fault) => fmt::Display::fmt(fault, f),
+            RaceFault::Setup(fault) => write!(f, "{fault}"),
             RaceFault::Line(script, line, fault) => {
-                fmt::Display::fmt(&BadLine(*script, *line, *fault), f)
+                write!(f, "script {script} line {line} {fault}")
             }
-            RaceFault::ScriptTooLong(script) => fmt::Display::fmt(&LongScript(*script), f),
+            RaceFault::ScriptTooLong(script) => write!(f, "script {script} too long"),
             RaceFault::Write => f.write_str("output failed"),
             RaceFault::NoMemory(_) => f.write_str("no memory"),
             RaceFault::JournalFull => f.write_str("journal full"),
@@ -123,9 +98,6 @@ impl fmt::Display for RaceFault {
 impl Error for RaceFault {}
 
 impl From<SetupFault> for PlayFault {
-    ghost use Rattle.std.specs.Prelude.{◌≡◌};
-    ghost use Rattle.cdb_streams.specs.Faults.{of_setup};
-
     ghost from_gives = { λ fault made. made ≡ of_setup fault };
 
     fn from(fault: SetupFault) -> Self {
@@ -138,9 +110,6 @@ impl From<SetupFault> for PlayFault {
 
 /// A fault of the only script.
 impl From<ScriptFault> for PlayFault {
-    ghost use Rattle.std.specs.Prelude.{◌≡◌};
-    ghost use Rattle.cdb_streams.specs.Faults.{of_script};
-
     ghost from_gives = { λ fault made. made ≡ of_script fault };
 
     fn from(fault: ScriptFault) -> Self {
@@ -153,9 +122,6 @@ impl From<ScriptFault> for PlayFault {
 }
 
 impl From<ReadFault> for PlayFault {
-    ghost use Rattle.std.specs.Prelude.{◌≡◌};
-    ghost use Rattle.cdb_streams.specs.Faults.{of_reading};
-
     ghost from_gives = { λ fault made. made ≡ of_reading fault };
 
     fn from(fault: ReadFault) -> Self {
@@ -167,10 +133,7 @@ impl From<ReadFault> for PlayFault {
 }
 
 impl From<NoMemory> for PlayFault {
-    ghost use Rattle.std.specs.Prelude.{◌≡◌};
-    ghost use Rattle.cdb_streams.specs.declared.fault.PlayFault.TheVariants.{NoMemory as out_of_memory};
-
-    ghost from_gives = { λ refused made. made ≡ out_of_memory refused };
+    ghost from_gives = { λ refused made. made ≡ play.NoMemory refused };
 
     fn from(refused: NoMemory) -> Self {
         PlayFault::NoMemory(refused)
@@ -178,9 +141,6 @@ impl From<NoMemory> for PlayFault {
 }
 
 impl From<OutputFault> for PlayFault {
-    ghost use Rattle.std.specs.Prelude.{◌≡◌};
-    ghost use Rattle.cdb_streams.specs.Faults.{of_output};
-
     ghost from_gives = { λ fault made. made ≡ of_output fault };
 
     fn from(fault: OutputFault) -> Self {
@@ -192,9 +152,6 @@ impl From<OutputFault> for PlayFault {
 }
 
 impl From<SetupFault> for RaceFault {
-    ghost use Rattle.std.specs.Prelude.{◌≡◌};
-    ghost use Rattle.cdb_streams.specs.RaceFaults.{race_fault_of_setup};
-
     ghost from_gives = { λ fault made. made ≡ race_fault_of_setup fault };
 
     fn from(fault: SetupFault) -> Self {
@@ -206,9 +163,6 @@ impl From<SetupFault> for RaceFault {
 }
 
 impl From<OutputFault> for RaceFault {
-    ghost use Rattle.std.specs.Prelude.{◌≡◌};
-    ghost use Rattle.cdb_streams.specs.RaceFaults.{race_fault_of_output};
-
     ghost from_gives = { λ fault made. made ≡ race_fault_of_output fault };
 
     fn from(fault: OutputFault) -> Self {
@@ -220,11 +174,7 @@ impl From<OutputFault> for RaceFault {
 }
 
 impl From<AllocError> for RaceFault {
-    ghost use Rattle.std.specs.Prelude.{◌≡◌};
-    ghost use Rattle.cdb_base.specs.Memory.{no_memory};
-    ghost use Rattle.cdb_streams.specs.declared.fault.RaceFault.TheVariants.{NoMemory as out_of_memory};
-
-    ghost from_gives = { λ _ made. made ≡ out_of_memory no_memory };
+    ghost from_gives = { λ _ made. made ≡ race.NoMemory no_memory };
 
     fn from(error: AllocError) -> Self {
         RaceFault::NoMemory(NoMemory::from(error))

@@ -1,10 +1,9 @@
 //! The lines that report faults. They are written without allocating.
 
-ghost use Rattle.std.specs.Prelude.{◌≡◌, ◌∷◌, [], Some};
-ghost use Rattle.cdb_setup.specs.Numbers.{numbered_text, setup_detail, setup_fault_text};
+ghost use Rattle.std.specs.Prelude.{Some};
+ghost use Rattle.cdb_setup.specs.Numbers.{numbered_text, setup_fault_text};
 ghost use Rattle.cdb_streams.specs.FaultTexts.{as_line, play_fault_text, race_fault_text};
 ghost use Rattle.cdb_streams.specs.FaultTexts.{script_line_text, long_script_text};
-ghost use Rattle.cdb_streams.specs.Pieces.{pieces_text};
 ghost use Rattle.cdb_streams.specs.Streams.{Writes};
 
 use crate::fault::{PlayFault, RaceFault};
@@ -20,52 +19,31 @@ const OUTPUT_FAILED: &str = "output failed";
 
 const END: Piece<'static> = Text("\n");
 
-/// What a fault of a setup carries: after a space its key, its position, or its process and position.
-fn detail_of(
-    fault: &SetupFault,
-) -> (
-    Piece<'static>,
-    Piece<'static>,
-    Piece<'static>,
-    Piece<'static>,
-)
-    ensures { pieces_text (result.0 ∷ result.1 ∷ result.2 ∷ result.3 ∷ [])
-        ≡ setup_detail fault.now }
-{
-    let (space, nothing) = (Text(" "), Text(""));
-    match fault {
-        SetupFault::Missing(key) => (space, Text(key.name()), nothing, nothing),
-        SetupFault::BadInput(position) => (space, Number(*position), nothing, nothing),
-        SetupFault::BadOracle(process, position) => (
-            space,
-            Number(*process),
-            space,
-            Number(*position),
-        ),
-        _ => (nothing, nothing, nothing, nothing),
-    }
-}
-
-/// A fault of a setup that has this number.
+/// A fault of a setup that has this number: after its name its key, its position, or its process and position.
 fn write_numbered<W: Sink>(number: u8, fault: &SetupFault, err: &mut W) -> Result<(), Failed>
     ensures { Writes W.stream result err.old err.new
         (as_line (numbered_text (Some number) fault.now)) }
 {
-    let number = Number(usize::from(number));
-    let name = Text(fault.name());
-    let (first, second, third, fourth) = detail_of(fault);
-    let pieces = [
-        Text("setup fault "),
-        number,
-        Text(" "),
-        name,
-        first,
-        second,
-        third,
-        fourth,
-        END,
-    ];
-    write_each(err, &pieces)
+    let (start, space) = (Text("setup fault "), Text(" "));
+    let (number, name) = (Number(usize::from(number)), Text(fault.name()));
+    match fault {
+        SetupFault::Missing(key) => {
+            let key = Text(key.name());
+            write_each(err, &[start, number, space, name, space, key, END])
+        }
+        SetupFault::BadInput(position) => {
+            let position = Number(*position);
+            write_each(err, &[start, number, space, name, space, position, END])
+        }
+        SetupFault::BadOracle(process, position) => {
+            let (process, position) = (Number(*process), Number(*position));
+            let pieces = [
+                start, number, space, name, space, process, space, position, END,
+            ];
+            write_each(err, &pieces)
+        }
+        _ => write_each(err, &[start, number, space, name, END]),
+    }
 }
 
 fn write_setup_fault<W: Sink>(fault: &SetupFault, err: &mut W) -> Result<(), Failed>

@@ -1,12 +1,16 @@
 //! The commands of a script.
 
-ghost use Rattle.std.specs.Prelude.{◌≡◌, ◌+◌, ◌*◌, ◌/◌, ◌<◌, ◌≤◌, [], ◌∷◌, ◌++◌, length, Err, IfOk, IfErr, OnOk};
+ghost use Rattle.std.specs.Prelude.{◌≡◌, ◌+◌, ◌*◌, ◌/◌, ◌<◌, ◌≤◌, [], ◌∷◌, ◌++◌, length};
+ghost use Rattle.std.specs.Prelude.{Some, Err, IfOk, IfErr, OnOk, codes};
 ghost use Rattle.cdb_base.specs.Limits.{MAX_ENTRIES};
+ghost use Rattle.cdb_base.specs.Memory.{no_memory};
 ghost use Rattle.cdb_setup.specs.Format.{longest};
-ghost use Rattle.cdb_streams.specs.Faults.{IsFaultOfReading};
+ghost use Rattle.cdb_streams.specs.FaultTexts.{play_fault_text};
+ghost use Rattle.cdb_streams.specs.Faults.{IsFaultOfReading, of_script};
 ghost use Rattle.cdb_streams.specs.Lines.{lines_of};
 ghost use Rattle.cdb_streams.specs.Scripts.{AreCommandsOf, GivesCommands, IsFaultOfScript};
 ghost use Rattle.cdb_streams.specs.Streams.{FailsWhere};
+ghost use Rattle.cdb_streams.specs.declared.script.ScriptFault.TheVariants.{NoMemory as out_of_memory};
 
 use crate::fault::PlayFault;
 use crate::lines::first_line;
@@ -34,10 +38,6 @@ pub enum ScriptFault {
 
 /// The text of the fault of a play.
 impl fmt::Display for ScriptFault {
-    ghost use Rattle.std.specs.Prelude.{Some, codes};
-    ghost use Rattle.cdb_streams.specs.FaultTexts.{play_fault_text};
-    ghost use Rattle.cdb_streams.specs.Faults.{of_script};
-
     ghost output = { λ fault. Some (play_fault_text (of_script fault) (codes "the input")) };
 
     fn fmt<W: fmt::Write>(&self, f: &mut fmt::Formatter<W>) -> fmt::Result {
@@ -49,10 +49,6 @@ impl fmt::Display for ScriptFault {
 impl Error for ScriptFault {}
 
 impl From<AllocError> for ScriptFault {
-    ghost use Rattle.std.specs.Prelude.{◌≡◌};
-    ghost use Rattle.cdb_base.specs.Memory.{no_memory};
-    ghost use Rattle.cdb_streams.specs.declared.script.ScriptFault.TheVariants.{NoMemory as out_of_memory};
-
     ghost from_gives = { λ _ made. made ≡ out_of_memory no_memory };
 
     fn from(error: AllocError) -> Self {

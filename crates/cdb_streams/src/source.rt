@@ -1,10 +1,14 @@
 //! Readers.
 
 ghost use Rattle.std.specs.Prelude.{◌≡◌, ℕ, ◌<◌, ◌≤◌, length, Option, None, Err, IfOk, IfSome, IfNone, is_err};
-ghost use Rattle.std.specs.Prelude.{option_map};
+ghost use Rattle.std.specs.Prelude.{Some, codes, option_map};
 ghost use Rattle.std.specs.Io.{ReadsAtMost};
 ghost use Rattle.std.specs.Io.KnownBytes.{Consumes, IsAtEnd, ReadConsumes};
+ghost use Rattle.cdb_base.specs.Memory.{no_memory};
+ghost use Rattle.cdb_streams.specs.FaultTexts.{play_fault_text};
+ghost use Rattle.cdb_streams.specs.Faults.{of_reading};
 ghost use Rattle.cdb_streams.specs.Streams.{Stream, counted, is_end, EndsOnceAtMost, FailsWhere};
+ghost use Rattle.cdb_streams.specs.declared.source.ReadFault.TheVariants as reading;
 
 use crate::fault::PlayFault;
 use crate::sink::Failed;
@@ -58,10 +62,6 @@ pub enum ReadFault {
 
 /// The text of the fault of a play.
 impl fmt::Display for ReadFault {
-    ghost use Rattle.std.specs.Prelude.{Some, codes};
-    ghost use Rattle.cdb_streams.specs.FaultTexts.{play_fault_text};
-    ghost use Rattle.cdb_streams.specs.Faults.{of_reading};
-
     ghost output = { λ fault. Some (play_fault_text (of_reading fault) (codes "the input")) };
 
     fn fmt<W: fmt::Write>(&self, f: &mut fmt::Formatter<W>) -> fmt::Result {
@@ -73,10 +73,7 @@ impl fmt::Display for ReadFault {
 impl Error for ReadFault {}
 
 impl From<Failed> for ReadFault {
-    ghost use Rattle.std.specs.Prelude.{◌≡◌};
-    ghost use Rattle.cdb_streams.specs.declared.source.ReadFault.TheVariants.{Failed as failed};
-
-    ghost from_gives = { λ _ made. made ≡ failed };
+    ghost from_gives = { λ _ made. made ≡ reading.Failed };
 
     fn from(_error: Failed) -> Self {
         ReadFault::Failed
@@ -84,11 +81,7 @@ impl From<Failed> for ReadFault {
 }
 
 impl From<AllocError> for ReadFault {
-    ghost use Rattle.std.specs.Prelude.{◌≡◌};
-    ghost use Rattle.cdb_base.specs.Memory.{no_memory};
-    ghost use Rattle.cdb_streams.specs.declared.source.ReadFault.TheVariants.{NoMemory as out_of_memory};
-
-    ghost from_gives = { λ _ made. made ≡ out_of_memory no_memory };
+    ghost from_gives = { λ _ made. made ≡ reading.NoMemory no_memory };
 
     fn from(error: AllocError) -> Self {
         ReadFault::NoMemory(NoMemory::from(error))

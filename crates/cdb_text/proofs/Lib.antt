@@ -5,7 +5,6 @@ pub mod Entries
 pub mod FirstFaults
 pub mod Numbers
 pub mod Printed
-pub mod Pushed
 pub mod Readers
 pub mod Registers
 pub mod RegisterWords

@@ -48,9 +48,6 @@ pub register_says : (word : List ℕ) (x : Reg) → register_named word ≡ Some
 unfolding register_named
 register_says word x e = grind (arith, common_steps, gets, two_bytes, decimal_digit, bytes_eq-Decides)
 
-starts_with_letter : (x : Reg) → IsInRange (register x) → 97 ≤ get_or (part_text (register x)) 0 0
-starts_with_letter x ranges = grind (arith, common_steps, gets)
-
 -- a number is no register
 pub number_is_no_register : (n : ℕ) → IsInRange (number n) → register_named (decimal n) ≡ None
 unfolding register_named

@@ -1,12 +1,11 @@
 //! The texts of what is shown, at the end of a text: processes, registers, mail, history and decisions.
 
-ghost use Rattle.std.specs.Prelude.{◌++◌, codes, decimal};
 ghost use Rattle.cdb_text.specs.Pushes.{Pushes};
 ghost use Rattle.std.specs.List.{flat_map};
 ghost use Rattle.std.specs.Str.{IsUtf8};
 ghost use Rattle.cdb_text.specs.Reports.{value_text, payload_text};
 ghost use Rattle.cdb_text.specs.Reports.{process_text, cause_text, causes_text};
-ghost use Rattle.cdb_text.specs.Reports.{event_line, history_text, copy_line, mail_text};
+ghost use Rattle.cdb_text.specs.Reports.{history_text, mail_text};
 ghost use Rattle.cdb_text.specs.Reports.{decision_text, decisions_text};
 ghost use Rattle.cdb_text.specs.Reports.{register_line, decision_line, registers_from, registers_text};
 

@@ -67,6 +67,7 @@ fn write_two_digits(bytes: &mut [u8], from: usize, number: u32) -> usize
 }
 
 /// A number of one or two digits.
+#[tactic(auto, using(std::proofs::lemmas::Fmt::decimal_digit, crate::proofs::Digits::two_digits))]
 #[inline(always)]
 fn write_few_digits(bytes: &mut [u8], from: usize, number: u32) -> usize
     requires { (number < 100) × (from + 2 ≤ length bytes.old) }
@@ -91,6 +92,7 @@ fn write_long(bytes: &mut [u8], from: usize, number: u32) -> usize
 }
 
 /// A number of two digits or more.
+#[tactic(auto, using(crate::proofs::Digits::two_digits))]
 #[inline(never)]
 fn write_digits(bytes: &mut [u8], from: usize, number: u32) -> usize
     requires { (10 ≤ number) × (from + 10 ≤ length bytes.old) }
@@ -107,6 +109,7 @@ fn write_digits(bytes: &mut [u8], from: usize, number: u32) -> usize
     write_long(bytes, from, number)
 }
 
+#[tactic(auto, using(std::proofs::lemmas::Fmt::decimal_digit))]
 #[inline(always)]
 pub(super) fn write_number(bytes: &mut [u8], from: usize, number: u32) -> usize
     requires { from + 10 ≤ length bytes.old }
@@ -120,6 +123,7 @@ pub(super) fn write_number(bytes: &mut [u8], from: usize, number: u32) -> usize
 }
 
 /// The number of a process, which has one digit.
+#[tactic(auto, using(std::proofs::lemmas::Fmt::decimal_digit))]
 #[inline(always)]
 pub(super) fn write_process(bytes: &mut [u8], from: usize, p: Proc) -> usize
     requires { from < length bytes.old }

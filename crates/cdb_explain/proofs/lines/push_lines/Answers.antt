@@ -1,10 +1,10 @@
 use Rattle.std.proofs.Common.{ℕ, ◌+◌, ◌<◌, length, string_bytes, true, false, sym, ap, ◌∙◌, arith}
 use Rattle.cdb_base.specs.declared.event.Event.{Event}
-use Rattle.cdb_deeds.specs.Deeds.{deed_in, received_by_each}
+use Rattle.cdb_deeds.specs.Deeds.{received_by_each}
 use Rattle.cdb_rules.proofs.Flagged.{item_at}
 use Rattle.cdb_rules.specs.RunView.{RunView}
 use Rattle.cdb_setup.specs.Parts.{AreInRange}
-use Rattle.cdb_explain.specs.Explanations.{line_at, line_text}
+use Rattle.cdb_explain.specs.Explanations.{line_at}
 use Rattle.cdb_explain.proofs.Along.{next_valid, next_along, its_line}
 use Rattle.cdb_explain.proofs.Flags.{count_more, flag_read, text_more, text_same, unflagged_more}
 use Rattle.cdb_explain.proofs.lines.push_lines.Goals as goal
@@ -55,8 +55,7 @@ loop-i-preserved g c =
                 ∙ next_along g.T.Runs.rules g.T.Runs.same_state g.met.T.Runs.histories run i event at _ so.again later w.in_ok-push_next.ensures.taken;
             names = added ∙ ap (λ (r : RunView). received_by_each r.history) (sym (ap g.T.Runs.run w.again-is ∙ w.in_ok-push_next.ensures.taken));
             text =
-                text_more (line_at g.T.Runs.rules c.args.causes run) flags i (string_bytes c.args.text.now) (string_bytes c.loop-i.text)
-                (string_bytes c.if-flags-i.text) (line_text g.T.Runs.rules c.args.causes later (deed_in (g.T.Runs.run c.loop-i.again) event) later event)
+                text_more flags i (line_at g.T.Runs.rules c.args.causes run) _ _ _ _
                 so.text (ap string_bytes w.text-is ∙ w.in_ok-push_next.ensures.line) line is;
             count = w.count-is ∙ ap (λ (n : ℕ). n + 1) so.count ∙ sym (count_more flags i is);
             few = omega (arith, counted, few);
@@ -72,8 +71,7 @@ loop-i-preserved g c =
                 ∙ next_along g.T.Runs.rules g.T.Runs.same_state g.met.T.Runs.histories run i event at _ so.again later w.in_ok-take_next.ensures;
             names = added ∙ ap (λ (r : RunView). received_by_each r.history) (sym (ap g.T.Runs.run w.again-is ∙ w.in_ok-take_next.ensures));
             text =
-                ap string_bytes w.text-is
-                ∙ text_same (line_at g.T.Runs.rules c.args.causes run) flags i (string_bytes c.args.text.now) (string_bytes c.loop-i.text) so.text is;
+                ap string_bytes w.text-is ∙ text_same flags i (line_at g.T.Runs.rules c.args.causes run) _ _ so.text is;
             count = w.count-is ∙ so.count ∙ ap length (sym (unflagged_more flags i is));
             few = omega (arith, counted, few);
           }

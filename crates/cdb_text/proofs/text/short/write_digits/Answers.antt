@@ -1,10 +1,7 @@
 use Rattle.std.proofs.Common.{arith}
-use Rattle.cdb_text.proofs.Digits.{last_two, two_digits}
+use Rattle.cdb_text.proofs.Digits.{last_two}
 use Rattle.cdb_text.proofs.Written.{both}
 use Rattle.cdb_text.proofs.text.short.write_digits.Goals as goal
-
-pub returns-then-number-lt100-clause-written : goal.returns-then-number-lt100-clause-written
-returns-then-number-lt100-clause-written c = rw (two_digits c.args.number (omega arith) (omega arith)) c.write_two_digits.ensures.written
 
 pub returns-then-number-lt10000-clause-written : goal.returns-then-number-lt10000-clause-written
 returns-then-number-lt10000-clause-written c =
