@@ -1,6 +1,6 @@
-pub mod Trails
+pub mod Spots
 pub mod InPast
-pub mod Whole
+pub mod Trails
 pub mod RunFlows
 pub mod Numbers
 pub mod LeaderTrue

@@ -11,7 +11,7 @@ use Rattle.cdb_trail.specs.Trails.{EachValueHasATrail, EachDecisionHasATrail, Tr
 use Rattle.cdb_trail.proofs.AlphaTrue as alpha
 use Rattle.cdb_trail.proofs.LeaderTrue as leader
 use Rattle.cdb_trail.proofs.RunFlows.{are_true}
-use Rattle.cdb_trail.proofs.Whole.{each_value_has_a_trail, each_decision_has_a_trail, trails_are_unique}
+use Rattle.cdb_trail.proofs.Trails.{each_value_has_a_trail, each_decision_has_a_trail, trails_are_unique}
 
 pub leader_flows_are_true : (setup : Parts) → FlowsAreTrue (leader_machine setup) leader_flows setup.inputs
 leader_flows_are_true setup = are_true leader_table leader_flows (λ s. Unit {0}) setup leader.leader_flows_are_true

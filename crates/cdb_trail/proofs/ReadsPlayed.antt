@@ -14,7 +14,7 @@ use Rattle.cdb_rules.specs.Runs.{IsInOrder, machine_in, state_in, with_event, wi
 use Rattle.cdb_rules.specs.State.{Machine, start}
 use Rattle.cdb_rules.specs.Step.{after, fold}
 use Rattle.cdb_trail.specs.Flow.{Spot, Flow, Flows, flow_of, value_at}
-use Rattle.cdb_trail.specs.Played.{AreFirstFlows}
+use Rattle.cdb_trail.specs.Played.{AreFirstFlows, IsTakenBy}
 use Rattle.cdb_trail.specs.Trails.{flow_at, flow_in, state_before, Takes, TakesValue, IsTrail, IsTrailOf, TrailsAreUnique}
 
 module _ {L S : Type 0} (table : Table L) (flows : Flows L S) (run : RunView) where
@@ -72,22 +72,25 @@ module _ {L S : Type 0} (table : Table L) (flows : Flows L S) (run : RunView) wh
 
 module _ {L S : Type 0} {table : Table L} {flows : Flows L S} {run : RunView} {n : ℕ} {again : RunView} {flow : Flow S}
     (next : IsNext table flows run n again flow) where
-  pub takes_of : {from : Spot S} → flow.takes ≡ Some from → Takes (machine_in table run) flows run.history n from
-  takes_of takes = ap (λ (f : Flow S). f.takes) (sym next.is) ∙ takes
-
-  -- it takes no value where it takes from no spot, or from one that has none
-  pub takes_none : flow.takes ≡ None → (v : ℕ) → TakesValue (machine_in table run) flows run.history v n → ⊥
-  takes_none none v it = none-some it.from (sym none ∙ ap (λ (f : Flow S). f.takes) next.is ∙ it.takes)
-
-  pub lies_none : {from : Spot S} → flow.takes ≡ Some from → value_at flows (state_in table again) from ≡ None
-      → (v : ℕ) → TakesValue (machine_in table run) flows run.history v n → ⊥
-  lies_none {from} takes none v it =
-      let same : it.from ≡ from = same_Some it.from from (sym it.takes ∙ takes_of takes) in
-      none-some v (sym none ∙ ap (λ state. value_at flows state from) next.before ∙ rw same at it.taken)
+  takes_of : {from : Spot S} → flow.takes ≡ Some from → Takes (machine_in table run) flows run.history n from
+  takes_of takes = rw (← next.is) takes
 
   pub takes_it : {from : Spot S} {v : ℕ} → flow.takes ≡ Some from → value_at flows (state_in table again) from ≡ Some v
-      → TakesValue (machine_in table run) flows run.history v n
-  takes_it {from} takes lies = record { from = from; takes = takes_of takes; taken = sym (ap (λ state. value_at flows state from) next.before) ∙ lies }
+      → IsTakenBy table flows run n (Some (from, v))
+  takes_it takes lies = (takes_of takes, rw (← next.before) lies)
+
+  -- it takes no value where it takes from no spot, or from one that has none
+  pub takes_none : flow.takes ≡ None → IsTakenBy table flows run n None
+  takes_none none v it = none-some it.from (sym none ∙ rw (← next.is) at it.takes)
+
+  pub lies_none : {from : Spot S} → flow.takes ≡ Some from → value_at flows (state_in table again) from ≡ None → IsTakenBy table flows run n None
+  lies_none {from} takes none v it =
+      none-some v (sym none ∙ rw (same_Some it.from from (sym it.takes ∙ takes_of takes), ← next.before) at it.taken)
+
+-- the value that is taken
+pub value_of : {L S : Type 0} (table : Table L) (flows : Flows L S) (run : RunView) {n : ℕ} {spot : Spot S} {v : ℕ}
+    → IsTakenBy table flows run n (Some (spot, v)) → TakesValue (machine_in table run) flows run.history v n
+value_of table flows run taken = record { from = _; takes = taken.0; taken = taken.1 }
 
 -- a trail to a step is the one that carries its value
 pub the_trail : {L S : Type 0} {machine : Machine L} {flows : Flows L S} {inputs : List ℕ} {history : List Event} {p q v n : ℕ} {one other : List ℕ}

@@ -7,23 +7,30 @@ use Rattle.cdb_causal.proofs.Lists.{push_cases}
 use Rattle.cdb_process.proofs.Members.{contained_in}
 use Rattle.cdb_process.specs.Table.{Table}
 use Rattle.cdb_rules.specs.RunView.{RunView}
-use Rattle.cdb_rules.specs.Runs.{machine_in}
+use Rattle.cdb_rules.specs.Runs.{machine_in, IsInOrder}
 use Rattle.cdb_trail.specs.Flow.{Spot, slot, Flow, Flows}
-use Rattle.cdb_trail.specs.Played.{AreFirstFlows, IsLastSetter, SetNone}
-use Rattle.cdb_trail.specs.Trails.{Takes, Sets, IsFed, TakesInput, IsTrail, begins, goes_on}
+use Rattle.cdb_trail.specs.Origins.{IsOrigin}
+use Rattle.cdb_trail.specs.Played.{AreFirstFlows, IsLastSetter, IsTakenBy, SetNone}
+use Rattle.cdb_trail.specs.Trails.{Sets, TakesInput, EachValueHasATrail, IsTrail, begins, goes_on}
 use Rattle.cdb_trail.specs.declared.origins.Origin.{Origin}
+use Rattle.cdb_trail.specs.declared.origins.Origin.TheVariants.{Step, Input}
+use Rattle.cdb_trail.proofs.ReadsPlayed.{value_of}
 
 module _ {L S : Type 0} (table : Table L) (flows : Flows L S) (run : RunView) (found : List (Flow S)) (first : AreFirstFlows table flows run found)
-    {n : ℕ} (e : n ≡ suc (length found)) (spot : Spot S) (takes : Takes (machine_in table run) flows run.history n spot) where
+    {n : ℕ} (e : n ≡ suc (length found)) {spot : Spot S} {v : ℕ} (taken : IsTakenBy table flows run n (Some (spot, v))) where
   -- the last of them that sets the spot from which the next step takes its value feeds that step
-  pub fed_by : {i j : ℕ} → j ≡ suc i → IsLastSetter found spot i → IsFed (machine_in table run) flows run.history j n
-  fed_by {i} {j} next setter = record {
-    spot = spot;
-    takes = takes;
-    sets = rw (next, ← same_Some setter.flow _ (sym setter.at ∙ first i within)) setter.sets;
-    later = omega (arith, within);
-    last = none_between;
-  }
+  pub from_step : {i j : ℕ} → j ≡ suc i → IsLastSetter found spot i → IsOrigin (machine_in table run) flows run.history n (Some (Step j))
+  from_step {i} {j} next setter = (
+    v,
+    value_of table flows run taken,
+    record {
+      spot = spot;
+      takes = taken.0;
+      sets = rw (next, ← same_Some setter.flow _ (sym setter.at ∙ first i within)) setter.sets;
+      later = omega (arith, within);
+      last = none_between;
+    },
+  )
     where
       within : i < length found
       within = slice_get_within found i setter.flow setter.at
@@ -32,15 +39,22 @@ module _ {L S : Type 0} (table : Table L) (flows : Flows L S) (run : RunView) (f
       none_between zero high low sets = absurd (omega arith)
       none_between (suc k) high low sets = setter.last k _ (omega arith) (first k (omega arith)) sets
 
-  -- where none of them sets it, the trail of the next step begins with it, and the spot is the slot of that input
-  pub input_by : {q : ℕ} {trail : List ℕ} → SetNone found spot → IsTrail (machine_in table run) flows run.history q n trail
-      → TakesInput (machine_in table run) flows run.history q n × (spot ≡ slot q flows.input)
-  input_by {q} none (begins it) = (it, same_Some spot (slot q flows.input) (sym takes ∙ it.takes))
-  input_by none (goes_on {i = i} before fed) = absurd (unset i (rw (same_Some fed.spot spot (sym fed.takes ∙ takes)) at fed.sets) fed.later)
-    where
-      unset : (k : ℕ) → Sets (machine_in table run) flows run.history k spot → k < n → ⊥
-      unset zero sets low = let it = contained_in [] spot sets in elim it [ ]
-      unset (suc k) sets low = none k _ (first k (omega arith)) sets
+  -- where none of them sets it, the trail of that step begins with it, and the spot is the slot of an input
+  module _ (has_trails : EachValueHasATrail (machine_in table run) flows run.setup.inputs) (valid : IsInOrder table run) (none : SetNone found spot) where
+    pub given : (q : ℕ) × TakesInput (machine_in table run) flows run.history q n × (spot ≡ slot q flows.input)
+    given = let has = has_trails run.history valid v n (value_of table flows run taken) in by_trail has.2.is_trail
+      where
+        unset : (k : ℕ) → Sets (machine_in table run) flows run.history k spot → k < n → ⊥
+        unset zero sets low = let it = contained_in [] spot sets in elim it [ ]
+        unset (suc k) sets low = none k _ (first k (omega arith)) sets
+
+        by_trail : {q : ℕ} {trail : List ℕ} → IsTrail (machine_in table run) flows run.history q n trail
+            → (q : ℕ) × TakesInput (machine_in table run) flows run.history q n × (spot ≡ slot q flows.input)
+        by_trail {q} (begins it) = (q, it, same_Some spot (slot q flows.input) (sym taken.0 ∙ it.takes))
+        by_trail (goes_on {i = i} before fed) = absurd (unset i (rw (same_Some fed.spot spot (sym fed.takes ∙ taken.0)) at fed.sets) fed.later)
+
+    pub from_input : (p : ℕ) → ((q : ℕ) (x : S) → spot ≡ slot q x → p ≡ q) → IsOrigin (machine_in table run) flows run.history n (Some (Input p))
+    from_input p is = (v, value_of table flows run taken, rw (is given.0 flows.input given.2) given.1)
 
 -- the flow at the next position does not set the spot, and none behind it does
 pub unset_before : {S : Type 0} (flows : List (Flow S)) (spot : Spot S) (n i : ℕ)

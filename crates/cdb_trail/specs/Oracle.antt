@@ -3,7 +3,7 @@
 use Rattle.std.specs.Prelude.{ℕ, Bool, false, ◌==◌, ◌&&◌, List, ◌++◌, codes, length}
 use Rattle.std.specs.Prelude.{filter, map, option_map, option_to_list}
 use Rattle.std.specs.List.{flat_map, list_any, range_with_len}
-use Rattle.cdb_agreement.specs.Algorithms.{rules}
+use Rattle.cdb_agreement.specs.Algorithms.{rules as both_rules}
 use Rattle.cdb_base.specs.Event.{event_name}
 use Rattle.cdb_base.specs.Positions.{nth}
 use Rattle.cdb_base.specs.declared.event.Event.{Event}
@@ -15,12 +15,14 @@ use Rattle.cdb_explain.specs.Explanations.{deed_at}
 use Rattle.cdb_explain.specs.Flagged.{is_flagged}
 use Rattle.cdb_explain.specs.Rounds.{round_before}
 use Rattle.cdb_rules.specs.RunView.{RunView}
+use Rattle.cdb_rules.specs.Rules.{Rules}
+use Rattle.cdb_setup.specs.Parts.{Parts}
 use Rattle.cdb_text.specs.Reports.{causes_text}
 use Rattle.cdb_trail.specs.declared.oracle.TrailEvent.{TrailEvent}
 
 -- the event at that position, what it did, the round of its process before it, and whether it is flagged
-abbrev pub trail_event_at : RunView → List Bool → ℕ → Event → TrailEvent
-trail_event_at run flags position event = record {
+abbrev pub trail_event_at : (Parts → Rules) → RunView → List Bool → ℕ → Event → TrailEvent
+trail_event_at rules run flags position event = record {
   event = event;
   deed = deed_at run position;
   round = round_before rules run position;
@@ -28,13 +30,14 @@ trail_event_at run flags position event = record {
 }
 
 -- the first events, count of them
-abbrev pub first_trail_events : RunView → List Bool → ℕ → List TrailEvent
-first_trail_events run flags count =
-    flat_map (λ position. option_to_list (option_map (trail_event_at run flags position) (nth run.history position)))
+abbrev pub first_trail_events : (Parts → Rules) → RunView → List Bool → ℕ → List TrailEvent
+first_trail_events rules run flags count =
+    flat_map
+    (λ position. option_to_list (option_map (trail_event_at rules run flags position) (nth run.history position)))
     (range_with_len 1 count)
 
-abbrev pub trail_events : RunView → List Bool → List TrailEvent
-trail_events run flags = first_trail_events run flags (length run.history)
+abbrev pub trail_events : (Parts → Rules) → RunView → List Bool → List TrailEvent
+trail_events rules run flags = first_trail_events rules run flags (length run.history)
 
 -- a step of process p that did that counts an answer to process q: a vote those to the senders that name the leader,
 -- and what settles the value of a round of Alpha the one to its own process
@@ -69,7 +72,8 @@ abbrev pub on_trail : List TrailEvent → List TrailEvent
 on_trail all = filter (λ it. it.on_trail) all
 
 abbrev pub answers_in : RunView → List Bool → List StepId
-answers_in run flags = answers_among (on_trail (trail_events run flags)) (trail_events run flags)
+answers_in run flags =
+    answers_among (on_trail (trail_events both_rules run flags)) (trail_events both_rules run flags)
 
 -- `oracle answers P.K ..`, or `oracle answers none`
 unfoldable pub answers_word : List ℕ

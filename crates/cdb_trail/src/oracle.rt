@@ -109,27 +109,20 @@ fn answers(alloc: Global, all: &[TrailEvent]) -> Result<Vec<StepId>, NoMemory>
     Ok(names)
 }
 
-/// The round of the process of the event, before it comes.
-fn round_before(again: &AnyRun, event: &Event) -> u32
-    ensures { result ≡ round_by rules again.now event.now }
-{
-    round_by(again, event)
-}
-
 /// What is told of the event that comes next.
-fn trail_event(
+fn trail_event<T: HasDeeds>(
     alloc: Global,
-    again: &AnyRun,
+    again: &T,
     names: &ReceivedNames,
     event: &Event,
     on_trail: bool,
 ) -> Result<TrailEvent, NoMemory>
-    requires { names.now ≡ received_by_each again.now.history }
+    requires { names.now ≡ received_by_each (T.run again.now).history }
     ensures { IfOk result (λ it. it
         ≡ record {
           event = event.now;
-          deed = deed_in again.now event.now;
-          round = round_by rules again.now event.now;
+          deed = deed_in (T.run again.now) event.now;
+          round = round_by T.rules (T.run again.now) event.now;
           on_trail = on_trail;
         }) }
 {
@@ -137,18 +130,22 @@ fn trail_event(
     Ok(TrailEvent {
         event: *event,
         deed,
-        round: round_before(again, event),
+        round: round_by(again, event),
         on_trail,
     })
 }
 
 /// What is told of all events of the run, where those on the trail are flagged.
-fn trail_events(alloc: Global, run: &Trace, flags: &[bool]) -> Result<Vec<TrailEvent>, NoMemory>
-    requires valid { IsInOrder rules run.now }
+fn trail_events<T: HasDeeds>(
+    alloc: Global,
+    run: &Trace,
+    flags: &[bool],
+) -> Result<Vec<TrailEvent>, NoMemory>
+    requires valid { IsInOrder T.rules run.now }
     requires a_flag_each { length flags.now ≡ length run.now.history }
-    ensures { IfOk result (λ all. all.items ≡ trail_events run.now flags.now) }
+    ensures { IfOk result (λ all. all.items ≡ trail_events T.rules run.now flags.now) }
 {
-    let mut again = fresh::<AnyRun>(alloc, run)?;
+    let mut again = fresh::<T>(alloc, run)?;
     // Its clause says that the parts of the setup are in range.
     let _ranges = run.setup().n();
     let events = run.events();
@@ -173,7 +170,7 @@ pub(crate) fn answers_in(
     requires a_flag_each { length flags.now ≡ length run.now.history }
     ensures { IfOk result (λ names. names.items ≡ answers_in run.now flags.now) }
 {
-    let all = trail_events(alloc, run, flags)?;
+    let all = trail_events::<AnyRun>(alloc, run, flags)?;
     let names = answers(alloc, all.as_slice())?;
     Ok(names)
 }

@@ -10,8 +10,8 @@ ghost use Rattle.cdb_trail.specs.Trails.{EachValueHasATrail};
 
 use crate::flow::{Flow, Spot};
 use crate::flowing::Flowing;
-use crate::played::{flow_of, take_next, value_at};
-use crate::walk::sets;
+use crate::played::{play_on, taken_by};
+use crate::walk::{process_of, sets};
 use cdb_alpha::Alpha;
 use cdb_base::{NoMemory, Proc};
 use cdb_leader::Leader;
@@ -55,21 +55,12 @@ fn origin_behind<P: Flowing>(
     requires has_trails { EachValueHasATrail (machine_in P.table run.now) P.flows run.now.setup.inputs }
     ensures { IsOrigin (machine_in P.table run.now) P.flows run.now.history (length flows.now + 1) result }
 {
-    let events = run.events();
-    let flow = flow_of(before, &events[flows.len()]);
-    let Some(from) = flow.takes() else {
+    let Some((from, _)) = taken_by(run, before, flows.len()) else {
         return None;
     };
-    let Some(_value) = value_at(before, &from) else {
-        return None;
-    };
-    if let Some(i) = last_setter::<P>(flows, &from) {
-        return Some(Origin::Step(i + 1));
-    }
-    match from {
-        Spot::Slot(q, _) => Some(Origin::Input(q)),
-        Spot::Message(_, _) => unreachable!(),
-        Spot::Register(_) => unreachable!(),
+    match last_setter::<P>(flows, &from) {
+        Some(i) => Some(Origin::Step(i + 1)),
+        None => Some(Origin::Input(process_of(&from))),
     }
 }
 
@@ -83,12 +74,9 @@ fn origins_by<P: Flowing>(alloc: Global, run: &Trace) -> Result<Vec<Option<Origi
     let mut again = Run::start(alloc, run.setup().copy(alloc)?)?;
     let mut flows = Vec::new(alloc);
     let mut origins = Vec::new(alloc);
-    let events = run.events();
-    for i in 0..events.len() {
-        let event = &events[i];
+    for i in 0..run.events().len() {
         origins.push(origin_behind::<P>(run, &again, flows.as_slice()))?;
-        flows.push(flow_of(&again, event))?;
-        take_next(alloc, &mut again, event)?;
+        play_on(alloc, run, i, &mut again, &mut flows)?;
     }
     Ok(origins)
 }

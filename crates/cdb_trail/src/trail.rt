@@ -8,7 +8,7 @@ ghost use Rattle.cdb_trail.specs.Trailed.{IsTrailFound, IsTrailIn};
 ghost use Rattle.cdb_trail.specs.Trails.{EachValueHasATrail, TrailsAreUnique};
 
 use crate::flowing::Flowing;
-use crate::played::{flow_of, play_before, value_at};
+use crate::played::{play_before, taken_by};
 use crate::walk::walk_back;
 use cdb_alpha::Alpha;
 use cdb_base::{NoMemory, Proc, Val};
@@ -39,22 +39,17 @@ fn trail_by<P: Flowing>(
     requires no_others { TrailsAreUnique (machine_in P.table run.now) P.flows run.now.setup.inputs }
     ensures { IfOk result (IsTrailFound (machine_in P.table run.now) P.flows run.now position) }
 {
-    let count = position - 1;
-    let (before, flows) = play_before::<P>(alloc, run, count)?;
-    let events = run.events();
-    let flow = flow_of(&before, &events[count]);
-    match flow.takes() {
-        Some(from) => match value_at(&before, &from) {
-            Some(value) => {
-                let (proposer, flags) = walk_back::<P>(alloc, run, flows.as_slice(), from)?;
-                Ok(Some(Trail {
-                    proposer,
-                    value,
-                    flags,
-                }))
-            }
-            None => Ok(None),
-        },
+    let (before, flows) = play_before::<P>(alloc, run, position - 1)?;
+    let flows = flows.as_slice();
+    match taken_by(run, &before, flows.len()) {
+        Some((from, value)) => {
+            let (proposer, flags) = walk_back::<P>(alloc, run, flows, from)?;
+            Ok(Some(Trail {
+                proposer,
+                value,
+                flags,
+            }))
+        }
         None => Ok(None),
     }
 }

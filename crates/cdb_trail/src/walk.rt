@@ -1,6 +1,7 @@
 //! The walk back from a step along the trail of its value.
 
 ghost use Rattle.std.specs.Prelude.{◌≡◌, ℕ, ◌+◌, ◌<◌, List, Contains, Some, length, IfOk, IsTrue, ◌↔◌};
+ghost use Rattle.cdb_trail.specs.Flow.{slot};
 ghost use Rattle.cdb_trail.specs.Played.{AreFirstFlows, TakesFrom, IsTrailTo};
 ghost use Rattle.cdb_trail.specs.Trailed.{FlagsTrail};
 
@@ -29,6 +30,18 @@ fn is_it<P: Flowing>(found: &Option<Spot<P::Slot>>, spot: &Spot<P::Slot>) -> boo
     match found {
         Some(it) => is_one_spot::<P>(it, spot),
         None => false,
+    }
+}
+
+/// The process of which the spot is a slot.
+pub(crate) fn process_of<S: Copy + Drop>(spot: &Spot<S>) -> Proc
+    requires { (q : ℕ) × (x : S) × (spot.now ≡ slot q x) }
+    ensures { (q : ℕ) (x : S) → spot.now ≡ slot q x → result ≡ q }
+{
+    match *spot {
+        Spot::Slot(p, _) => p,
+        Spot::Message(_, _) => unreachable!(),
+        Spot::Register(_) => unreachable!(),
     }
 }
 
@@ -69,9 +82,5 @@ pub(crate) fn walk_back<P: Flowing>(
             }
         }
     }
-    match wanted {
-        Spot::Slot(proposer, _) => Ok((proposer, flags)),
-        Spot::Message(_, _) => unreachable!(),
-        Spot::Register(_) => unreachable!(),
-    }
+    Ok((process_of(&wanted), flags))
 }

@@ -15,21 +15,10 @@ again-requires g c =
 
 pub unreachable-requires : goal.unreachable-requires
 unreachable-requires g c =
-    let table = g.P.Process.table in
     let setup = c.args.again.now.setup in
     let range : AreInRange setup = subst AreInRange c.setup.ensures c.n-ranges.ensures.ranges in
-    let laws = g.met.P.Process in
-    let lawful : IsLawful (machine_of table setup) =
-    record {
-      query = laws.query_by_state;
-      recv = laws.recv_by_state;
-      send = laws.wish_send;
-      read = laws.wish_read;
-      write = laws.wish_write;
-      local = laws.wish_local;
-    } in
-    let is = taken_again table setup range lawful _ _ (last_enabled table setup range _ _ c.requires) in
-    true≢false (ap is_ok (sym is ∙ sym c.in_ok-again.ensures.returns ∙ c.in-Err.is))
+    let ok = c.in_ok-again.ensures.taken.1 (last_enabled g.P.Process.table setup range _ _ c.requires) in
+    true≢false (sym ok ∙ ap is_ok c.in-Err.is)
 
 pub returns : goal.returns
 returns g c =

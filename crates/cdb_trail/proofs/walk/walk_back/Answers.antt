@@ -1,7 +1,7 @@
 use Rattle.std.proofs.Common.{◌≡◌, ◌+◌, ◌-◌, suc, false, length, replicate, rules, sym, ◌∙◌, true≢false, arith}
 use Rattle.std.proofs.lemmas.Option.{none-some}
 use Rattle.cdb_trail.proofs.ReadsPlayed.{flow_there}
-use Rattle.cdb_trail.proofs.WalkBack.{begun, passed, source, stepped, is_input, found, no_message, no_register}
+use Rattle.cdb_trail.proofs.WalkBack.{begun, passed, source, stepped, is_input, found}
 use Rattle.cdb_trail.proofs.walk.walk_back.Goals as goal
 
 pub loop-i-init : goal.loop-i-init
@@ -33,17 +33,12 @@ loop-i-preserved g c =
     let is = flow_there g.P.Process.table g.P.Flowing.flows c.args.run.now c.args.flows.now c.requires.flows e (omega arith) c.index-flows-i.is in
     passed e c.loop-i.invariant (λ sets. true≢false (sym (c.sets.ensures.1 (rw is sets)) ∙ c.if-sets.false))
 
-pub unreachable-requires-in-Message : goal.unreachable-requires-in-Message
-unreachable-requires-in-Message g c =
+pub process_of-requires : goal.process_of-requires
+process_of-requires g c =
     let e : c.loop-i.i ≡ 0 = omega arith in
-    no_message (is_input e c.loop-i.invariant) c.in-Message.is
-
-pub unreachable-requires-in-Register : goal.unreachable-requires-in-Register
-unreachable-requires-in-Register g c =
-    let e : c.loop-i.i ≡ 0 = omega arith in
-    no_register (is_input e c.loop-i.invariant) c.in-Register.is
+    (_, _, is_input e c.loop-i.invariant)
 
 pub returns : goal.returns
 returns g c =
     let e : c.loop-i.i ≡ 0 = omega arith in
-    found e c.loop-i.invariant c.in-Slot.is
+    found e c.loop-i.invariant _ (c.process_of.ensures _ _ (is_input e c.loop-i.invariant))
