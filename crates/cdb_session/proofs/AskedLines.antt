@@ -50,9 +50,8 @@ AreOthers lines = AllByRecursion (λ line. ¬ IsQuit line) lines
 pub AllZip-more : (exchanges : List Exchange) (lines : List (List ℕ)) (exchange : Exchange) (line : List ℕ)
     → AllZip Asks exchanges lines → Asks exchange line → AllZip Asks (exchanges ++ exchange ∷ []) (lines ++ line ∷ [])
 AllZip-more [] [] exchange line are is = (is, tt)
-AllZip-more [] (other ∷ lines) exchange line are is = absurd are
-AllZip-more (other ∷ exchanges) [] exchange line are is = absurd are
 AllZip-more (other ∷ exchanges) (other_line ∷ lines) exchange line are is = (are.0, AllZip-more exchanges lines exchange line are.1 is)
+AllZip-more others lines exchange line are is = absurd are
 
 is_false : (b : Bool) → b ≢ true → b ≡ false
 is_false b = elim b as (λ v. v ≢ true → v ≡ false) [ true ↦ λ no. absurd (no refl) | false ↦ λ no. refl ]

@@ -22,7 +22,7 @@ use Rattle.cdb_text.specs.Grammar.{IsInRange, words_of, part_text}
 use Rattle.cdb_session.specs.declared.inquiry.Inquiry.{Inquiry}
 use Rattle.cdb_session.specs.declared.inquiry.Inquiry.TheVariants.{Explain, Trail, Draw}
 use Rattle.cdb_session.specs.declared.topic.Topic.{Topic}
-use Rattle.cdb_session.specs.Inquiries.{AreAnyStepWords, AreInquiryWords, has_other_meaning, inquiry_word, is_file_name, numbers_of}
+use Rattle.cdb_session.specs.Inquiries.{AreAnyStepWords, AreInquiryWords, has_other_meaning, is_file_name, numbers_of}
 use Rattle.cdb_session.specs.Laws.{ExactLinesStand}
 use Rattle.cdb_session.specs.Repeats.{repeat_parts}
 use Rattle.cdb_session.specs.Requests.{most_seats, help_line, seat_line, watch_line}
@@ -220,13 +220,15 @@ any_step_stands : (name : List ℕ) (step : Option StepAsked) (others : List (Li
 any_step_stands name None others is = rw is tt
 any_step_stands name (Some step) others is = rw is.are (parts_stand _ (numbers_of step.p step.k) (search rules) is.in_range)
 
-inquiry_stands : (inquiry : Inquiry) (others : List (List ℕ)) → AreInquiryWords inquiry others → AllStand [] (inquiry_word inquiry ∷ others)
-inquiry_stands (Explain step) others is =
-    rw is.are (parts_stand [] (fixed "explain" ∷ numbers_of step.p step.k) (search rules) (tt, is.in_range))
-inquiry_stands (Trail step) others is =
-    rw is.are (parts_stand [] (fixed "trail" ∷ numbers_of step.p step.k) (search rules) (tt, is.in_range))
-inquiry_stands (Draw name step) others (named, steps, are, its) =
-    rw are (part_stands [] (fixed "draw") (search rules) tt, (a_file (codes "draw" ∷ []) name named refl, any_step_stands name step steps its))
+inquiry_stands : (inquiry : Inquiry) (words : List (List ℕ)) → AreInquiryWords inquiry words → AllStand [] words
+inquiry_stands (Explain step) (word ∷ others) (first, is) =
+    rw (first, is.are) (parts_stand [] (fixed "explain" ∷ numbers_of step.p step.k) (search rules) (tt, is.in_range))
+inquiry_stands (Trail step) (word ∷ others) (first, is) =
+    rw (first, is.are) (parts_stand [] (fixed "trail" ∷ numbers_of step.p step.k) (search rules) (tt, is.in_range))
+inquiry_stands (Draw name step) (word ∷ file ∷ others) (first, same, named, its) =
+    rw (first, same)
+    (part_stands [] (fixed "draw") (search rules) tt, (a_file (codes "draw" ∷ []) name named refl, any_step_stands name step others its))
+inquiry_stands inquiry words none = absurd none
 
 -- ---- all such lines
 
@@ -250,7 +252,7 @@ unfolding line_meant words_meant
 exact_lines_stand line (inl (inl (about, is))) = rw is (help_stands about)
 exact_lines_stand line (inl (inr (inl is))) = rw is refl
 exact_lines_stand line (inl (inr (inr (inl (seat, within, is))))) = rw is (seat_stands seat within)
-exact_lines_stand line (inl (inr (inr (inr (inl (inquiry, is)))))) = exact line (inquiry_word inquiry ∷ is.0) is.1 (inquiry_stands inquiry is.0 is.2)
+exact_lines_stand line (inl (inr (inr (inr (inl (inquiry, is)))))) = exact line (words_of line) refl (inquiry_stands inquiry (words_of line) is)
 exact_lines_stand line (inl (inr (inr (inr (inr (inl (p, times, is))))))) =
     exact line _ is.0 (parts_stand [] (repeat_parts p times) (search rules) is.1)
 exact_lines_stand line (inl (inr (inr (inr (inr (inr (begins, is))))))) = rw is (watch_stands begins)

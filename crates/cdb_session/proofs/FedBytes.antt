@@ -1,6 +1,6 @@
 -- A session responds to the lines of the bytes that it was given, whatever replies will follow.
 use Rattle.std.proofs.Common.{◌≡◌, ◌≢◌, rules, inl, inr, ℕ, ◌+◌, ◌<◌, Bool, true, false, List, [], ◌∷◌, ◌++◌, length, take}
-use Rattle.std.proofs.Common.{refl, sym, ap, subst, ◌∙◌, append_assoc}
+use Rattle.std.proofs.Common.{refl, sym, ap, subst, ◌∙◌, append_assoc, append-nil}
 use Rattle.std.specs.Prelude.{Result, Ok, Err, IsTrue}
 use Rattle.cdb_base.specs.Memory.{no_memory as refused}
 use Rattle.cdb_commands.specs.ReplyView.{ReplyView}
@@ -31,7 +31,8 @@ use Rattle.cdb_session.proofs.AskedLines.{is_not_quit, AllZip-more, up_to_quit-o
 use Rattle.cdb_session.proofs.CutLines.{ended_and_more}
 use Rattle.cdb_session.proofs.GotReplies.{SameLine, MakesNone-refl, none_got, nothing_lost, may_follow, same_replies, same_line, commands_done, commands_lost}
 use Rattle.cdb_session.proofs.MovesInOrder.{Makes-more, EndsWith-more, writes_more, written-append}
-use Rattle.cdb_session.proofs.NextState.{StandsBefore, asked_behind, ended_line, finish, last_line, line_lost, lost_before, more_unfinished, no_further}
+use Rattle.cdb_session.proofs.NextState.{ended as all_ended, StandsBefore, asked_behind, ended_line, finish, last_line, line_lost, lost_before}
+use Rattle.cdb_session.proofs.NextState.{more_unfinished, no_further}
 use Rattle.cdb_session.proofs.NextState.{no_last_line, none_in_nothing, now_ended, now_read, open_writes, over_more, read_more}
 use Rattle.cdb_session.proofs.NextState.{unfinished_of_nothing, whole_line}
 
@@ -147,19 +148,14 @@ module _ {Answers : RunView → Inquiry → Answer → Type 0} {style : StyleVie
         → IsBehind Answers style old new line.exchange.0 kept was_quit → up_to_quit (at.line ∷ others) ≡ at.line ∷ []
         → HasEnded (moves ++ made at line) → IsSession Answers style new.part ended_well (moves ++ made at line)
     served {new} line is ends ended =
-        let its = along_behind at line [] (λ full. refl) line.outputs.3 is.lines is.seat in
-        let part : Part = part_with (new.part.replies ++ []) new.part in
+        let its = rw append-nil at (along_behind at line [] (λ full. refl) line.outputs.3 is.lines is.seat) in
         let lines : lines_of (read_in (moves ++ made at line)) ≡ at.lines ++ at.line ∷ others =
         ap lines_of (read_more moves (made at line) line.outputs.2) ∙ begins ∙ append_assoc at.lines (at.line ∷ []) others in
-        finish new.part ended_well (moves ++ made at line)
-        (record {
-          in_time = its.in_time new.part [] (no_further Answers style part (exchanges_now at line) its.commands);
-          ends = record {
-            responded =
-                subst (λ parts. IsServed Answers style part parts (written_in (moves ++ made at line))) (sym lines)
-                (exchanges_now at line, asked_behind at line.exchange (asked at line) (at.line ∷ others) ends, its.written, its.commands);
-            ended = ended;
-          };
+        all_ended its ended_well (record {
+          responded =
+              subst (λ parts. IsServed Answers style new.part parts (written_in (moves ++ made at line))) (sym lines)
+              (exchanges_now at line, asked_behind at line.exchange (asked at line) (at.line ∷ others) ends, its.written, its.commands);
+          ended = ended;
         })
 
     -- it failed

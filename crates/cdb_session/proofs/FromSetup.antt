@@ -1,5 +1,5 @@
 -- A session with nine seats, from the text of its setup to its end.
-use Rattle.std.proofs.Common.{rules, ◌≡◌, inr, ℕ, ◌<◌, ◌≤◌, List, [], ◌++◌, length, sym, ap, subst, ◌∙◌, append_assoc, append-nil, arith}
+use Rattle.std.proofs.Common.{rules, ◌≡◌, inr, ℕ, ◌<◌, ◌≤◌, List, [], ◌++◌, length, sym, ap, subst, ◌∙◌, append_assoc, arith}
 use Rattle.std.specs.Prelude.{Result, Ok, Err}
 use Rattle.cdb_base.specs.declared.no_memory.NoMemory.{NoMemory}
 use Rattle.cdb_base.specs.Limits.{MAX_ENTRIES, MAX_SEATS}
@@ -26,15 +26,50 @@ use Rattle.cdb_session.specs.Alone.{whole_part, IsLaterControl, nine}
 use Rattle.cdb_session.specs.Debugs as table
 use Rattle.cdb_session.specs.Greetings.{greeting_at, greeting_text}
 use Rattle.cdb_session.specs.Moves.{Known, Move, Output, read_in, written_in}
-use Rattle.cdb_session.specs.Answers.{HasExchanges}
 use Rattle.cdb_session.specs.Requests.{ended_lines}
 use Rattle.cdb_session.specs.Since.{since}
 use Rattle.cdb_session.specs.Served.{HoldsSession, IsAnswered, IsServed, IsCutShort, IsSession}
-use Rattle.cdb_session.specs.Sessions.{EndsAs}
+use Rattle.cdb_session.specs.Sessions.{EndsAs, IsSessionBy}
 use Rattle.cdb_session.specs.Styles.{Onward}
 use Rattle.cdb_session.specs.Table.{begun, IsDialogue}
+use Rattle.cdb_session.proofs.NextState.{no_further}
 use Rattle.cdb_session.proofs.SameAsTable.{all_answered, came, nothing_lost}
 use Rattle.cdb_session.proofs.OwnControl.{later_control}
+
+-- ---- a session of whose lines this is said is one of whose lines less is said
+
+module _ {Says Serves Tells Leaves : List (List ℕ) → List Output → Type 0} {IsCut IsBegun : List Move → Type 0}
+    (tells : (lines : List (List ℕ)) (outputs : List Output) → Says lines outputs → Tells lines outputs)
+    (leaves : (lines : List (List ℕ)) (outputs : List Output) → Serves lines outputs → Leaves lines outputs)
+    (begins : (moves : List Move) → IsCut moves → IsBegun moves) where
+  ends_on : {A : Type 0} (returned : Result A PlayFault) (moves : List Move) → EndsAs Says Serves IsCut returned moves
+      → EndsAs Tells Leaves IsBegun returned moves
+  ends_on (Ok done) moves e = record { responded = leaves (lines_of (read_in moves)) (written_in moves) e.responded; ended = e.ended }
+  ends_on (Err fault.Read) moves (e, last) =
+      (record { responded = leaves (ended_lines (read_in moves)) (written_in moves) e.responded; goes_on = e.goes_on; more = e.more }, last)
+  ends_on (Err fault.Write) moves (e, last) = (
+    record {
+      lines = e.lines;
+      others = e.others;
+      outputs = e.outputs;
+      missing = e.missing;
+      begins = e.begins;
+      responded = leaves e.lines e.outputs e.responded;
+      written = e.written;
+    },
+    last,
+  )
+  ends_on (Err (fault.NoMemory refused)) moves e = begins moves e
+  ends_on (Err other) moves e = e
+
+  pub session_on : {A : Type 0} (returned : Result A PlayFault) (moves : List Move) → IsSessionBy Says Serves IsCut returned moves
+      → IsSessionBy Tells Leaves IsBegun returned moves
+  session_on returned moves s = record {
+    in_time = λ before ask later is asks.
+        let r = s.in_time before ask later is asks in
+        record { responded = tells (ended_lines (read_in before)) (written_in before) r.responded; goes_on = r.goes_on; more = r.more };
+    ends = ends_on returned moves s.ends;
+  }
 
 -- ---- by its journal, and by the table
 
@@ -47,59 +82,23 @@ module _ (rules : Parts → Rules) (Answers : RunView → Inquiry → Answer →
         exchanges,
         asked,
         all_answered Answers greeting prompt rules c before exchanges others seats begins few has,
-        is
-            ∙ nothing_lost Answers greeting prompt rules c before exchanges others seats begins few has,
+        is ∙ nothing_lost Answers greeting prompt rules c before exchanges others seats begins few has,
       )
 
   served : (lines : List (List ℕ)) (outputs : List Output) → IsServed Answers (nine greeting prompt) (came rules c before) lines outputs
       → IsDialogue Answers greeting prompt (begun rules given before) lines outputs
   served lines outputs (exchanges, asked, is, has) =
-      answered lines outputs (
-        exchanges,
-        [],
-        asked,
-        is,
-        subst (HasExchanges Answers (nine greeting prompt) (came rules c before)) (sym (append-nil exchanges)) has,
-      )
+      answered lines outputs (exchanges, [], asked, is, no_further Answers (nine greeting prompt) (came rules c before) exchanges has)
 
-  ends : (returned : Result (Unit {0}) PlayFault) (moves : List Move) → EndsAs (IsAnswered Answers (nine greeting prompt) (came rules c before))
-      (IsServed Answers (nine greeting prompt) (came rules c before)) (IsCutShort Answers (nine greeting prompt) (came rules c before)) returned moves
-      → EndsAs (IsDialogue Answers greeting prompt (begun rules given before)) (IsDialogue Answers greeting prompt (begun rules given before))
-      (table.IsCutShort Answers greeting prompt (begun rules given before)) returned moves
-  ends (Ok done) moves e = record { responded = served (lines_of (read_in moves)) (written_in moves) e.responded; ended = e.ended }
-  ends (Err fault.Read) moves e =
-      (record { responded = served (ended_lines (read_in moves)) (written_in moves) e.0.responded; goes_on = e.0.goes_on; more = e.0.more }, e.1)
-  ends (Err fault.Write) moves e = (
-    record {
-      lines = e.0.lines;
-      others = e.0.others;
-      outputs = e.0.outputs;
-      missing = e.0.missing;
-      begins =
-          e.0.begins;
-      responded = served e.0.lines e.0.outputs e.0.responded;
-      written = e.0.written;
-    },
-    e.1,
-  )
-  ends (Err (fault.NoMemory refused)) moves e =
+  cut_short : (moves : List Move) → IsCutShort Answers (nine greeting prompt) (came rules c before) moves
+      → table.IsCutShort Answers greeting prompt (begun rules given before) moves
+  cut_short moves e =
       record {
         lines = e.lines;
         others = e.next ++ e.others;
-        begins =
-            e.begins ∙ append_assoc e.lines e.next e.others;
+        begins = e.begins ∙ append_assoc e.lines e.next e.others;
         responded = answered e.lines (written_in moves) e.responded;
       }
-  ends (Err other) moves e = e
-
-  by_table : (returned : Result (Unit {0}) PlayFault) (moves : List Move) → IsSession Answers (nine greeting prompt) (came rules c before) returned moves
-      → table.IsSession Answers greeting prompt (begun rules given before) returned moves
-  by_table returned moves s = record {
-    in_time = λ before ask later is asks.
-        let r = s.in_time before ask later is asks in
-        record { responded = answered (ended_lines (read_in before)) (written_in before) r.responded; goes_on = r.goes_on; more = r.more };
-    ends = ends returned moves s.ends;
-  }
 
 -- ---- with its setup
 
@@ -137,4 +136,7 @@ debugged rules Answers prompt json journal old new given encodes first last (bef
     let greeting = greeting_at prompt (greeting_text given) in
     let held =
     subst (λ (c : Journaled). IsSession Answers (nine greeting prompt) (since (whole_part rules c) (whole_part rules last)) returned made) first_is s in
-    (made, makes, inr (given, before, encodes, lines, by_table rules Answers greeting prompt given before last of seats begins its.few returned made held))
+    let table_of = session_on (answered rules Answers greeting prompt given before last of seats begins its.few)
+    (served rules Answers greeting prompt given before last of seats begins its.few)
+    (cut_short rules Answers greeting prompt given before last of seats begins its.few) returned made held in
+    (made, makes, inr (given, before, encodes, lines, table_of))

@@ -1,82 +1,45 @@
 -- The word that a word which is cut short stands for.
-use Rattle.std.proofs.Common.{◌≡◌, inl, inr, ℕ, suc, ◌+◌, ◌<◌, ◌≤◌, Bool, true, false, nat_eq, List, [], ◌∷◌, length, map, get_or, Bor, refl, ap, ◌∙◌, arith}
-use Rattle.std.specs.List.{filter, list_any, position_or_len, after_first, starts_with}
-use Rattle.std.proofs.lemmas.Bool.{cases_Bool}
+use Rattle.std.proofs.Common.{◌≡◌, ℕ, ◌+◌, ◌<◌, Bool, true, false, nat_eq, List, [], ◌∷◌, ◌++◌, length, map, take, drop, get_or, Bor, refl, sym, ap, ◌∙◌}
+use Rattle.std.proofs.Common.{take-append-drop}
+use Rattle.std.specs.List.{filter, starts_with}
+use Rattle.std.specs.Prelude.{Option, None, Some, is_some}
+use Rattle.std.proofs.lemmas.List.{map_more, map-append}
+use Rattle.std.proofs.lemmas.List.Elements.{filter-append}
 use Rattle.cdb_session.specs.Typed.{only, full}
 
-module _ {X : Type 0} (p : X → Bool) where
-  -- where none passes none is left
-  filter_none : (xs : List X) → list_any p xs ≡ false → filter p xs ≡ []
-  filter_none [] h = refl
-  filter_none (x ∷ xs) h =
-      elim (cases_Bool (p x)) [
-        | inl e ↦ let none = rw e at h in cc
-        | inr e ↦ rw e (filter_none xs (rw e at h))
-      ]
-
-  filter_absent : (xs : List X) → length xs ≤ position_or_len p xs → filter p xs ≡ []
-  filter_absent [] h = refl
-  filter_absent (x ∷ xs) h =
-      elim (cases_Bool (p x)) [
-        | inl e ↦ let low = rw e at h in absurd (omega (arith, low))
-        | inr e ↦ let low = rw e at h in rw e (filter_absent xs (omega (arith, low)))
-      ]
-
-  filter_some : (xs : List X) → list_any p xs ≡ true → (x : X) × (ys : List X) × (filter p xs ≡ x ∷ ys)
-  filter_some [] h = cc
-  filter_some (x ∷ xs) h =
-      elim (cases_Bool (p x)) [
-        | inl e ↦ (x, filter p xs, rw e refl)
-        | inr e ↦ let some = filter_some xs (rw e at h) in (some.0, some.1, rw e some.2)
-      ]
-
-  -- the first that passes, and those behind it
-  filter_first : (xs : List X) (d : X) → position_or_len p xs < length xs → filter p xs ≡ get_or xs (position_or_len p xs) d ∷ filter p (after_first p xs)
-  filter_first [] d h = absurd (omega (arith, h))
-  filter_first (x ∷ xs) d h =
-      elim (cases_Bool (p x)) [
-        | inl e ↦ rw e refl
-        | inr e ↦
-            let n : ℕ = position_or_len p xs in
-            let one : 1 + n ≡ suc n = omega arith in
-            let two : 1 + n + 1 ≡ suc (n + 1) = omega arith in
-            let low = rw e at h in rw (e, two, one) (filter_first xs d (omega (arith, low)))
-      ]
-
-  filter-map : {Y : Type 0} (f : Y → X) (ys : List Y) → filter p (map f ys) ≡ map f (filter (λ y. p (f y)) ys)
-  filter-map f [] = refl
-  filter-map f (y ∷ ys) =
-      elim (cases_Bool (p (f y))) [
-        | inl e ↦ rw e (ap (λ rest. f y ∷ rest) (filter-map f ys))
-        | inr e ↦ rw e (filter-map f ys)
-      ]
-
 -- the option begins with the word
-abbrev pub begins : List ℕ → Bor (List ℕ) → Bool
-begins word option = starts_with nat_eq option.now word
+abbrev pub begins : List ℕ → List ℕ → Bool
+begins word option = starts_with nat_eq option word
+
+abbrev pub texts : List (Bor (List ℕ)) → List (List ℕ)
+texts its = map (λ it. it.now) its
+
+-- what was found so far
+abbrev pub found_in : Option (Bor (List ℕ)) → List (List ℕ)
+found_in None = []
+found_in (Some it) = it.now ∷ []
 
 module _ (options : List (Bor (List ℕ))) (word : List ℕ) where
-  found : full (map (λ it. it.now) options) word ≡ only (map (λ it. it.now) (filter (begins word) options)) word
-  found = ap (λ some. only some word) (filter-map (λ option. starts_with nat_eq option word) (λ (it : Bor (List ℕ)). it.now) options)
+  -- those of the first options that begin so
+  abbrev pub beginning : ℕ → List (List ℕ)
+  beginning i = filter (begins word) (texts (take i options))
 
-  pub full_of_none : length options ≤ position_or_len (begins word) options → full (map (λ it. it.now) options) word ≡ word
-  full_of_none h = found ∙ ap (λ (some : List (Bor (List ℕ))). only (map (λ it. it.now) some) word) (filter_absent (begins word) options h)
+  -- where two do, the word stands for itself
+  full_of_some : (i : ℕ) (one other : List ℕ) → beginning i ≡ one ∷ other ∷ [] → full (texts options) word ≡ word
+  full_of_some i one other two =
+      let rest : List (List ℕ) = filter (begins word) (texts (drop i options)) in
+      ap (λ (all : List (Bor (List ℕ))). full (texts all) word) (sym (take-append-drop i options))
+      ∙ ap (λ (all : List (List ℕ)). full all word) (map-append (λ (it : Bor (List ℕ)). it.now) (take i options) (drop i options))
+      ∙ ap (λ (found : List (List ℕ)). only found word) (filter-append (begins word) (texts (take i options)) (texts (drop i options)))
+      ∙ ap (λ (found : List (List ℕ)). only (found ++ rest) word) two
 
-  module _ (none : Bor (List ℕ)) (h : position_or_len (begins word) options < length options) where
-    abbrev others : List (Bor (List ℕ))
-    others = after_first (begins word) options
-
-    first : full (map (λ it. it.now) options) word
-        ≡ only (map (λ it. it.now) (get_or options (position_or_len (begins word) options) none ∷ filter (begins word) others)) word
-    first = found ∙ ap (λ (some : List (Bor (List ℕ))). only (map (λ it. it.now) some) word) (filter_first (begins word) options none h)
-
-    pub full_of_more : list_any (begins word) others ≡ true → full (map (λ it. it.now) options) word ≡ word
-    full_of_more more =
-        let two = filter_some (begins word) others more in
-        first ∙ ap (λ (some : List (Bor (List ℕ))). only (map (λ it. it.now) (get_or options (position_or_len (begins word) options) none ∷ some)) word) two.2
-
-    pub full_of_one : list_any (begins word) others ≡ false
-        → full (map (λ it. it.now) options) word ≡ (get_or options (position_or_len (begins word) options) none).now
-    full_of_one no_more =
-        first ∙ ap (λ (some : List (Bor (List ℕ))). only (map (λ it. it.now) (get_or options (position_or_len (begins word) options) none ∷ some)) word)
-        (filter_none (begins word) others no_more)
+  pub full_of_two : (i : ℕ) (none : Bor (List ℕ)) (found : Option (Bor (List ℕ))) → i < length options → found_in found ≡ beginning i
+      → is_some found ≡ true → begins word (get_or options i none).now ≡ true → word ≡ full (texts options) word
+  full_of_two i none None within so some starts = absurd (let e : false ≡ true = some in cc)
+  full_of_two i none (Some it) within so some starts =
+      let option : List ℕ = (get_or options i none).now in
+      let last : filter (begins word) (option ∷ []) ≡ option ∷ [] = rw starts refl in
+      let two : beginning (i + 1) ≡ it.now ∷ option ∷ [] =
+      ap (filter (begins word)) (map_more (λ (it : Bor (List ℕ)). it.now) options i none within)
+      ∙ filter-append (begins word) (texts (take i options)) (option ∷ []) ∙ (λ j. sym so j ++ last j) in
+      sym (full_of_some (i + 1) it.now option two)

@@ -1,12 +1,12 @@
 -- What one line does to a session, and to what the journal has of it.
 use Rattle.std.proofs.lemmas.Grind.{common_steps}
 use Rattle.std.proofs.lemmas.Option.{gets}
-use Rattle.std.proofs.Common.{rules, ◌≡◌, ◌≢◌, ◌⊎◌, inl, inr, ℕ, zero, suc, ◌+◌, ◌-◌, ◌<◌, ◌≤◌, Bool, true, false, List, [], ◌∷◌, ◌++◌, drop, length, refl, sym}
+use Rattle.std.proofs.Common.{rules, ◌≡◌, ◌≢◌, ◌⊎◌, inl, inr, ℕ, zero, suc, ◌+◌, ◌-◌, ◌<◌, ◌≤◌, Bool, List, [], ◌∷◌, ◌++◌, drop, length, refl, sym}
 use Rattle.std.proofs.Common.{ap, subst, ◌∙◌, append_assoc, append-nil, arith, length-append, min}
 use Rattle.std.specs.Prelude.{◌||◌, fold, if◌then◌else◌, replicate, is_some, unwrap_or, MatchBool, Option, None, Some, Ok}
 use Rattle.std.proofs.lemmas.Bool.{cases_lt}
 use Rattle.std.proofs.lemmas.List.{replicate-append-replicate, nil_from_length}
-use Rattle.cdb_commands.specs.ReplyView.{ReplyView, is_refused}
+use Rattle.cdb_commands.specs.ReplyView.{ReplyView}
 use Rattle.cdb_commands.specs.declared.command.Command.{Command}
 use Rattle.cdb_control.specs.Journal.{entry}
 use Rattle.cdb_control.specs.declared.control.Entry.{Entry}
@@ -31,7 +31,7 @@ use Rattle.cdb_session.proofs.Along.{all_asked-more, replies_along, seat_along, 
 use Rattle.cdb_session.proofs.LaterParts.{AsManyLater, each_line_on, news_on}
 
 GoesOn-refl : (part : Part) → GoesOn part part
-GoesOn-refl part = record { before = refl; longer = omega arith; calls_in = λ first few. refl; left_by = λ first few. refl; news = λ from to few. refl }
+GoesOn-refl part = search rules
 
 pub GoesOn-trans : (old now new : Part) → GoesOn old now → GoesOn now new → GoesOn old new
 GoesOn-trans old now new a b = search rules
@@ -51,9 +51,7 @@ none_got seat request old new same = subst (λ (made : List Entry). AreCalled ol
 
 -- nor one where no reply was got
 same_calls : (seat : ℕ) (request : Request) (got : List ReplyView) {old new : Part} → HasGot seat old request got new → got ≡ [] → new.calls ≡ old.calls
-same_calls seat request got {old} calls nothing =
-    calls.calls ∙ ap (λ (g : List ReplyView). old.calls ++ entries_of seat request (length g)) nothing
-    ∙ ap (λ (made : List Entry). old.calls ++ made) (no_entry seat request) ∙ append-nil old.calls
+same_calls seat request got {old} calls nothing = grind (arith, common_steps, gets, no_entry)
 
 pub none : (got : List ReplyView) → length got ≤ 0 → got ≡ []
 none got few = nil_from_length got (omega (arith, few))
@@ -75,6 +73,10 @@ module _ (seat : ℕ) (old : Part) (request : Request) (got : List ReplyView) (n
   pub same_replies : old.replies ++ (got ++ more) ≡ new.replies ++ more
   same_replies = sym (append_assoc old.replies got more) ∙ ap (λ front. front ++ more) (sym is.replies)
 
+-- the entries that a line asks for are as many as its commands
+as_many_at : (seat : ℕ) (exchange : Exchange) → length (asked_of seat exchange) ≡ given_at exchange
+as_many_at seat exchange = grind (arith, common_steps, gets)
+
 -- ---- the answer is that of the replies that were got
 
 texts_same : (count : ℕ) (got more : List ReplyView) → length got ≤ count
@@ -87,20 +89,11 @@ texts_same (suc count) (reply ∷ got) more fits last =
 left_same : (count : ℕ) (got more : List ReplyView) → length got ≤ count → (length got < count → more ≡ []) → drop count (got ++ more) ≡ more
 left_same count got more fits last = grind (arith, common_steps, gets)
 
--- the first reply is a refusal, or not
-abbrev first_and : Bool → ℕ → ℕ
-first_and refused count = if refused then 1 else (1 + count)
-
-by_reply : (there here n : ℕ) (more : List ReplyView) (refused : Bool) → (n ≤ here → (n < here → more ≡ []) → there ≡ here)
-    → suc n ≤ first_and refused here → (suc n < first_and refused here → more ≡ []) → first_and refused there ≡ first_and refused here
-by_reply there here n more refused rest fits last = grind (arith, common_steps, gets)
-
 given_same : (times : ℕ) (got more : List ReplyView) → length got ≤ times_given times got
     → (length got < times_given times got → more ≡ []) → times_given times (got ++ more) ≡ times_given times got
 given_same zero got more fits last = refl
 given_same (suc times) [] more fits last = ap (times_given (suc times)) (last (omega arith))
-given_same (suc times) (reply ∷ got) more fits last =
-    by_reply (times_given times (got ++ more)) (times_given times got) (length got) more (is_refused reply) (given_same times got more) fits last
+given_same (suc times) (reply ∷ got) more fits last = grind (arith, common_steps, gets, given_same times got more)
 
 module _ (Answers : RunView → Inquiry → Answer → Type 0) (style : StyleView) where
   abbrev with_replies : ℕ → ℕ → Option ℕ → List ReplyView → Along
@@ -145,30 +138,18 @@ module _ (Answers : RunView → Inquiry → Answer → Type 0) (style : StyleVie
       )
   asked_behind seat exchange count fits = ([], refl, λ most. refl)
 
-  -- the entries that a line asks for are as many as its commands
-  as_many_at : (seat : ℕ) (exchange : Exchange) → length (asked_of seat exchange) ≡ given_at exchange
-  as_many_at seat exchange = grind (arith, common_steps, gets)
-
   as_many_asked : (chooses : Bool) (at : ℕ) (its : List Exchange) → length (all_asked chooses at its) ≡ commands_among its
   as_many_asked chooses at [] = refl
   as_many_asked chooses at (exchange ∷ its) =
-      omega (
-        arith,
-        length-append (asked_of at exchange) (all_asked chooses (seat_next chooses at exchange.0) its),
-        as_many_at at exchange,
-        as_many_asked chooses (seat_next chooses at exchange.0) its,
-      )
+      grind (arith, common_steps, as_many_at at exchange, as_many_asked chooses (seat_next chooses at exchange.0) its)
 
   -- one line more
   one_line_more : (IsSo : ℕ → Option ℕ → Exchange → Type 0) (count : ℕ) (watched : Option ℕ) (its : List Exchange) (exchange : Exchange)
       → EachLine IsSo count watched its → IsSo (count + commands_among its) (fold watched_next watched its) exchange
       → EachLine IsSo count watched (its ++ exchange ∷ [])
-  one_line_more IsSo count watched [] exchange said is = (subst (λ n. IsSo n watched exchange) (omega arith) is, tt)
+  one_line_more IsSo count watched [] exchange said is = search (rules, arith)
   one_line_more IsSo count watched (first ∷ its) exchange said is =
-      let next = watched_next watched first in (
-        said.0,
-        one_line_more IsSo (count + given_at first) next its exchange said.1 (subst (λ n. IsSo n (fold watched_next next its) exchange) (omega arith) is),
-      )
+      search (rules, arith, one_line_more IsSo (count + given_at first) (watched_next watched first) its exchange)
 
   -- what was seen at the lines before stands in the journal
   seen_next : (part : Part) (count least : ℕ) (watched : Option ℕ) (before after : Bool) (seen : ℕ) (news : List ℕ)
@@ -291,15 +272,19 @@ module _ (Answers : RunView → Inquiry → Answer → Type 0) (style : StyleVie
         record { before = refl; longer = omega arith; calls_in = λ first few. refl; left_by = λ first few. refl; news = λ from to few. refl } in
         let least = seen_all (part_with replies old) 0 None exchanges its.commands.1 (omega arith) in
         news_on new (part_with replies new) same (length old.calls) (0 + commands_among exchanges) old.entries
-        (unwrap_or (fold watched_next None exchanges) 0) least (as_many_now its.commands.0) (fold watched_next None exchanges)
+        (unwrap_or (fold watched_next None exchanges) 0) least as_many_now (fold watched_next None exchanges)
         exchange.0 exchange.1.seen exchange.1.news
         (subst (λ (from : Option ℕ). HasNews new (length old.calls) old.entries from exchange.0 exchange.1.seen exchange.1.news) watching looked)
       where
-        as_many_now : HasCommands style old exchanges
-            → min (0 + commands_among exchanges) (length new.calls) ≡ min (length old.calls) (length new.calls)
-        as_many_now (inl all) = omega (arith, ap length all, as_many_asked style.chooses style.first exchanges)
-        as_many_now (inr some) =
-            omega (arith, no_more_than (inr some), as_many_later exchange.0 got calls (inr some) (0 + commands_among exchanges) (omega arith))
+        as_many_now : min (0 + commands_among exchanges) (length new.calls) ≡ min (length old.calls) (length new.calls)
+        as_many_now =
+            omega (
+              arith,
+              no_more_than its.commands.0,
+              as_many_later exchange.0 got calls its.commands.0 (0 + commands_among exchanges) (omega arith),
+              ap length calls.calls,
+              length-append old.calls (entries_of seat exchange.0 (length got)),
+            )
 
     -- ---- a line was done
 
@@ -352,21 +337,12 @@ module _ (Answers : RunView → Inquiry → Answer → Type 0) (style : StyleVie
 no_more_given : (times : ℕ) (replies : List ReplyView) → times_given times replies ≤ times
 no_more_given zero replies = omega arith
 no_more_given (suc times) [] = omega arith
-no_more_given (suc times) (reply ∷ replies) = at_most (is_refused reply) (times_given times replies) times (no_more_given times replies)
-  where
-    at_most : (refused : Bool) (count most : ℕ) → count ≤ most → first_and refused count ≤ suc most
-    at_most true count most few = omega arith
-    at_most false count most few = omega (arith, few)
+no_more_given (suc times) (reply ∷ replies) = grind (arith, common_steps, no_more_given times replies)
 
 all_given : (times : ℕ) (got : List ReplyView) → length got ≤ times_given times got → times_given (length got) got ≡ length got
 all_given times [] fits = refl
 all_given zero (reply ∷ got) fits = absurd (omega (arith, fits))
-all_given (suc times) (reply ∷ got) fits = whole (is_refused reply) got (times_given times got) (all_given times got) fits
-  where
-    whole : (refused : Bool) (got : List ReplyView) (here : ℕ) → (length got ≤ here → times_given (length got) got ≡ length got)
-        → suc (length got) ≤ first_and refused here → first_and refused (times_given (length got) got) ≡ suc (length got)
-    whole true got here rest fits = let few : length got ≡ 0 = omega (arith, fits) in omega (arith, few)
-    whole false got here rest fits = let e = rest (omega (arith, fits)) in omega (arith, e)
+all_given (suc times) (reply ∷ got) fits = grind (arith, common_steps, all_given times got)
 
 pub begun_where_done : (Answers : RunView → Inquiry → Answer → Type 0) (seat : ℕ) (old new : Part) (request : Request)
     (effect : Effect) (got : List ReplyView) → HasDone Answers seat old (request, effect) got new → HasBegun seat old request new

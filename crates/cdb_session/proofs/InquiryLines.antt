@@ -13,7 +13,7 @@ use Rattle.cdb_text.specs.Grammar.{IsInRange, part_text, words_of}
 use Rattle.cdb_text.specs.Numbers.{number_of}
 use Rattle.cdb_text.proofs.Cut.{some_word}
 use Rattle.cdb_text.proofs.Numbers.{number_again, number_says}
-use Rattle.cdb_session.specs.Inquiries.{AreAnyStepWords, AreInquiryWords, AreStepWords, IsInquiryLine, inquiry_word, is_file_name, numbers_of}
+use Rattle.cdb_session.specs.Inquiries.{AreAnyStepWords, AreInquiryWords, AreStepWords, IsInquiryLine, is_file_name, numbers_of}
 use Rattle.cdb_session.specs.InquiryWords.{step_with, last_step, numbered_step, step_in, with_count, repeat_in, any_step_in, drawing_in, inquiry_in}
 use Rattle.cdb_session.specs.Repeats.{IsRepeatLine, repeat_parts}
 use Rattle.cdb_session.specs.Requests.{help_line, quit_line, seat_line, watch_line}
@@ -35,14 +35,14 @@ no_seat line inquiry is seat same = grind (arith, common_steps, gets)
 pub no_watch : (line : List ℕ) (inquiry : Inquiry) → IsInquiryLine inquiry line → (begins : Bool) → line ≡ watch_line begins → ⊥
 no_watch line inquiry is begins same = grind (arith, common_steps, gets)
 
--- ---- what is read in its words
+-- ---- what is read in the words
 
 number_reads : (n : ℕ) → IsInRange (number n) → number_of (decimal n) ≡ Some n
 number_reads n range = number_again n range.0 range.1
 
-read_again : (step : StepAsked) (words : List (List ℕ)) → AreStepWords step words → step_in words ≡ Some step
+step_reads : (step : StepAsked) (words : List (List ℕ)) → AreStepWords step words → step_in words ≡ Some step
 unfolding step_in
-read_again step words is = grind (arith, common_steps, gets, number_reads)
+step_reads step words is = grind (arith, common_steps, gets, number_reads)
 
 words_say : (first : List ℕ) (found : Option ℕ) (step : StepAsked) → number_of first ≡ found → last_step found ≡ Some step → AreStepWords step (first ∷ [])
 words_say first None step reads e = cc
@@ -74,37 +74,13 @@ step_says (first ∷ second ∷ third ∷ words) step e = cc
 none_named : (p : ℕ) (k : Option ℕ) → [] ≡ map part_text (numbers_of p k) → ⊥
 none_named p k e = grind (arith, common_steps, gets)
 
-any_read_again : (step : Option StepAsked) (words : List (List ℕ)) → AreAnyStepWords step words → any_step_in words ≡ Some step
+any_reads : (step : Option StepAsked) (words : List (List ℕ)) → AreAnyStepWords step words → any_step_in words ≡ Some step
 unfolding any_step_in
-any_read_again step words is = grind (arith, common_steps, gets, read_again, none_named)
+any_reads step words is = grind (arith, common_steps, gets, step_reads, none_named)
 
-any_step_says : (words : List (List ℕ)) (step : Option StepAsked) → any_step_in words ≡ Some step → AreAnyStepWords step words
+any_says : (words : List (List ℕ)) (step : Option StepAsked) → any_step_in words ≡ Some step → AreAnyStepWords step words
 unfolding any_step_in
-any_step_says words step e = grind (arith, common_steps, gets, step_says)
-
-draws_again : (name : List ℕ) (step : Option StepAsked) (words : List (List ℕ)) → AreInquiryWords (Draw name step) words
-    → drawing_in words ≡ Some (Draw name step)
-unfolding drawing_in
-draws_again name step words (named, others, are, its) =
-    ap drawing_in are ∙ (rw named (ap (option_map (Draw name)) (any_read_again step others its)))
-
-drawn : (name : List ℕ) (others : List (List ℕ)) (found : Option (Option StepAsked)) (inquiry : Inquiry) → any_step_in others ≡ found
-    → option_map (Draw name) found ≡ Some inquiry → is_file_name name ≡ true → (inquiry_word inquiry ≡ codes "draw") × AreInquiryWords inquiry (name ∷ others)
-drawn name others None inquiry reads e is = cc
-drawn name others (Some step) inquiry reads e is =
-    let same : Draw name step ≡ inquiry = cc in
-    subst (λ (i : Inquiry). (inquiry_word i ≡ codes "draw") × AreInquiryWords i (name ∷ others)) same
-    (refl, (is, others, refl, any_step_says others step reads))
-
-draws_say : (words : List (List ℕ)) (inquiry : Inquiry) → drawing_in words ≡ Some inquiry
-    → (inquiry_word inquiry ≡ codes "draw") × AreInquiryWords inquiry words
-unfolding drawing_in
-draws_say [] inquiry e = cc
-draws_say (name ∷ others) inquiry e =
-    elim (cases_Bool (is_file_name name)) [
-      | inl is ↦ drawn name others (any_step_in others) inquiry refl (rw is at e) is
-      | inr other ↦ let never = rw other at e in cc
-    ]
+any_says words step e = grind (arith, common_steps, gets, step_says)
 
 -- words that a line has are at least one
 any_of_some : (words : List (List ℕ)) → words ≢ [] → any_step_in words ≡ option_map Some (step_in words)
@@ -116,56 +92,58 @@ any_of_line line found is = ap (option_map Some) is ∙ sym (any_of_some (words_
 
 -- ---- what the line asks
 
-pub inquiry_again : (line : List ℕ) (inquiry : Inquiry) → IsInquiryLine inquiry line → inquiry_in (words_of line) ≡ Some inquiry
-unfolding inquiry_in
-inquiry_again line (Explain step) (others, is, words) = ap inquiry_in is ∙ ap (option_map Explain) (read_again step others words)
-inquiry_again line (Trail step) (others, is, words) = ap inquiry_in is ∙ ap (option_map Trail) (read_again step others words)
-inquiry_again line (Draw name step) (others, is, words) = ap inquiry_in is ∙ draws_again name step others words
-
-pub one_inquiry : (line : List ℕ) (one other : Inquiry) → IsInquiryLine one line → IsInquiryLine other line → one ≡ other
-one_inquiry line one other is is_other = let e = sym (inquiry_again line one is) ∙ inquiry_again line other is_other in cc
+pub inquiry_reads : (inquiry : Inquiry) (words : List (List ℕ)) → AreInquiryWords inquiry words → inquiry_in words ≡ Some inquiry
+unfolding inquiry_in drawing_in
+inquiry_reads inquiry words is = grind (arith, common_steps, gets, step_reads, any_reads)
 
 -- what such words ask, which make an inquiry of a step
-steps_say : (make : StepAsked → Inquiry) (first : List ℕ) → ((s : StepAsked) → inquiry_word (make s) ≡ first)
-    → ((s : StepAsked) (others : List (List ℕ)) → AreStepWords s others → AreInquiryWords (make s) others)
-    → (others : List (List ℕ)) (found : Option StepAsked) (inquiry : Inquiry) → step_in others ≡ found → option_map make found ≡ Some inquiry
-    → (inquiry_word inquiry ≡ first) × AreInquiryWords inquiry others
-steps_say make first word_is words_are others None inquiry reads e = cc
-steps_say make first word_is words_are others (Some step) inquiry reads e =
-    let same : make step ≡ inquiry = cc in
-    subst (λ (i : Inquiry). (inquiry_word i ≡ first) × AreInquiryWords i others) same (word_is step, words_are step others (step_says others step reads))
+step_asks : (make : StepAsked → Inquiry) (others : List (List ℕ)) (found : Option StepAsked) (inquiry : Inquiry) → step_in others ≡ found
+    → option_map make found ≡ Some inquiry → (step : StepAsked) × (make step ≡ inquiry) × AreStepWords step others
+step_asks make others None inquiry reads e = cc
+step_asks make others (Some step) inquiry reads e = (step, cc, step_says others step reads)
 
-begins_with : (word : List ℕ) (others : List (List ℕ)) (inquiry : Inquiry) (first : List ℕ) → bytes_eq word first ≡ true
-    → (inquiry_word inquiry ≡ first) × AreInquiryWords inquiry others
-    → (rest : List (List ℕ)) × (word ∷ others ≡ inquiry_word inquiry ∷ rest) × AreInquiryWords inquiry rest
-begins_with word others inquiry first is its = (others, ap (λ (w : List ℕ). w ∷ others) ((bytes_eq-Decides word first).0 is ∙ sym its.0), its.1)
+drawn : (name : List ℕ) (others : List (List ℕ)) (found : Option (Option StepAsked)) (inquiry : Inquiry) → any_step_in others ≡ found
+    → option_map (Draw name) found ≡ Some inquiry → is_file_name name ≡ true → AreInquiryWords inquiry (codes "draw" ∷ name ∷ others)
+drawn name others None inquiry reads e is = cc
+drawn name others (Some step) inquiry reads e is =
+    let same : Draw name step ≡ inquiry = cc in
+    subst (λ (i : Inquiry). AreInquiryWords i (codes "draw" ∷ name ∷ others)) same (refl, refl, is, any_says others step reads)
 
-words_ask : (words : List (List ℕ)) (inquiry : Inquiry) → inquiry_in words ≡ Some inquiry
-    → (others : List (List ℕ)) × (words ≡ inquiry_word inquiry ∷ others) × AreInquiryWords inquiry others
+drawing_says : (words : List (List ℕ)) (inquiry : Inquiry) → drawing_in words ≡ Some inquiry → AreInquiryWords inquiry (codes "draw" ∷ words)
+unfolding drawing_in
+drawing_says [] inquiry e = cc
+drawing_says (name ∷ others) inquiry e =
+    elim (cases_Bool (is_file_name name)) [
+      | inl is ↦ drawn name others (any_step_in others) inquiry refl (rw is at e) is
+      | inr other ↦ let never = rw other at e in cc
+    ]
+
+pub inquiry_says : (words : List (List ℕ)) (inquiry : Inquiry) → inquiry_in words ≡ Some inquiry → AreInquiryWords inquiry words
 unfolding inquiry_in
-words_ask [] inquiry e = cc
-words_ask (word ∷ others) inquiry e =
+inquiry_says [] inquiry e = cc
+inquiry_says (word ∷ others) inquiry e =
     elim (cases_Bool (bytes_eq word (codes "explain"))) [
-      | inl is ↦ begins_with word others inquiry (codes "explain") is
-          (steps_say Explain (codes "explain") (λ s. refl) (λ s words its. its) others (step_in others) inquiry refl (rw is at e))
+      | inl is ↦
+          let its = step_asks Explain others (step_in others) inquiry refl (rw is at e) in
+          rw (← its.1) ((bytes_eq-Decides word (codes "explain")).0 is, its.2)
       | inr other ↦
           elim (cases_Bool (bytes_eq word (codes "trail"))) [
             | inl is ↦
-                begins_with word others inquiry (codes "trail") is
-                (steps_say Trail (codes "trail") (λ s. refl) (λ s words its. its) others (step_in others) inquiry refl (rw (other, is) at e))
+                let its = step_asks Trail others (step_in others) inquiry refl (rw (other, is) at e) in
+                rw (← its.1) ((bytes_eq-Decides word (codes "trail")).0 is, its.2)
             | inr neither ↦
                 elim (cases_Bool (bytes_eq word (codes "draw"))) [
-                  | inl is ↦ begins_with word others inquiry (codes "draw") is (draws_say others inquiry (rw (other, neither, is) at e))
+                  | inl is ↦ rw ((bytes_eq-Decides word (codes "draw")).0 is) (drawing_says others inquiry (rw (other, neither, is) at e))
                   | inr none ↦ let never = rw (other, neither, none) at e in cc
                 ]
           ]
     ]
 
-pub inquiry_says : (line : List ℕ) (inquiry : Inquiry) → inquiry_in (words_of line) ≡ Some inquiry → IsInquiryLine inquiry line
-inquiry_says line inquiry e = words_ask (words_of line) inquiry e
+pub one_inquiry : (line : List ℕ) (one other : Inquiry) → IsInquiryLine one line → IsInquiryLine other line → one ≡ other
+one_inquiry line one other is is_other = let e = sym (inquiry_reads one _ is) ∙ inquiry_reads other _ is_other in cc
 
 pub no_inquiry : (line : List ℕ) → inquiry_in (words_of line) ≡ None → (inquiry : Inquiry) → ¬ IsInquiryLine inquiry line
-no_inquiry line none inquiry is = let e = sym none ∙ inquiry_again line inquiry is in cc
+no_inquiry line none inquiry is = let e = sym none ∙ inquiry_reads inquiry _ is in cc
 
 -- three words and more name no step
 no_third : (first second : List ℕ) (words : List (List ℕ)) → words ≢ [] → step_in (first ∷ second ∷ words) ≡ None
@@ -187,28 +165,28 @@ repeats_no_other line other byte p times is same first no_a = no_a (sym first �
 pub repeats_no_inquiry : (line : List ℕ) (inquiry : Inquiry) (p times : ℕ) → IsInquiryLine inquiry line → IsRepeatLine p times line → ⊥
 repeats_no_inquiry line inquiry p times is repeats = grind (arith, common_steps, gets)
 
-pub repeat_again : (line : List ℕ) (p times : ℕ) → IsRepeatLine p times line → repeat_in (words_of line) ≡ Some (p, times)
+repeat_reads : (line : List ℕ) (p times : ℕ) → IsRepeatLine p times line → repeat_in (words_of line) ≡ Some (p, times)
 unfolding repeat_in
-repeat_again line p times is = ap repeat_in is.0 ∙ ap with_count (read_again (step_with p (Some times)) _ (record { are = refl; in_range = is.1.1 }))
+repeat_reads line p times is = ap repeat_in is.0 ∙ ap with_count (step_reads (step_with p (Some times)) _ (record { are = refl; in_range = is.1.1 }))
 
 same_pair : (one other : ℕ × ℕ) → Some one ≡ Some other → (one.0 ≡ other.0) × (one.1 ≡ other.1)
 same_pair one other e = let same : one ≡ other = cc in (ap (λ (both : ℕ × ℕ). both.0) same, ap (λ (both : ℕ × ℕ). both.1) same)
 
 pub one_repeat : (line : List ℕ) (p times q count : ℕ) → IsRepeatLine p times line → IsRepeatLine q count line → (p ≡ q) × (times ≡ count)
 one_repeat line p times q count is other =
-    same_pair (p, times) (q, count) (sym (repeat_again line p times is) ∙ repeat_again line q count other)
-
-counted_in : (others : List (List ℕ)) (q : ℕ) (k : Option ℕ) (p times : ℕ) → step_in others ≡ Some (step_with q k)
-    → with_count (Some (step_with q k)) ≡ Some (p, times) → AreStepWords (step_with p (Some times)) others
-counted_in others q None p times reads e = cc
-counted_in others q (Some n) p times reads e =
-    let same : ◌≡◌ {A = ℕ × ℕ} (q, n) (p, times) = cc in
-    step_says others (step_with p (Some times)) (reads ∙ (λ i. Some (step_with (same i).0 (Some (same i).1))))
+    same_pair (p, times) (q, count) (sym (repeat_reads line p times is) ∙ repeat_reads line q count other)
 
 counted : (others : List (List ℕ)) (found : Option StepAsked) (p times : ℕ) → step_in others ≡ found
     → with_count found ≡ Some (p, times) → AreStepWords (step_with p (Some times)) others
 counted others None p times reads e = cc
-counted others (Some step) p times reads e = counted_in others step.p step.k p times reads e
+counted others (Some step) p times reads e = with_last step.k reads e
+  where
+    with_last : (k : Option ℕ) → step_in others ≡ Some (step_with step.p k) → with_count (Some (step_with step.p k)) ≡ Some (p, times)
+        → AreStepWords (step_with p (Some times)) others
+    with_last None reads e = cc
+    with_last (Some n) reads e =
+        let same : ◌≡◌ {A = ℕ × ℕ} (step.p, n) (p, times) = cc in
+        step_says others (step_with p (Some times)) (reads ∙ (λ i. Some (step_with (same i).0 (Some (same i).1))))
 
 words_repeat : (words : List (List ℕ)) (p times : ℕ) → repeat_in words ≡ Some (p, times)
     → (words ≡ map part_text (repeat_parts p times)) × AllByRecursion IsInRange (repeat_parts p times)
@@ -226,4 +204,4 @@ pub repeat_says : (line : List ℕ) (p times : ℕ) → repeat_in (words_of line
 repeat_says line p times e = words_repeat (words_of line) p times e
 
 pub no_repeat : (line : List ℕ) → repeat_in (words_of line) ≡ None → (p times : ℕ) → ¬ IsRepeatLine p times line
-no_repeat line none p times is = let e = sym none ∙ repeat_again line p times is in cc
+no_repeat line none p times is = let e = sym none ∙ repeat_reads line p times is in cc

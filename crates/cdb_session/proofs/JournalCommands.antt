@@ -23,11 +23,6 @@ pick : (most : ℕ) (b : Bool) (c d : Journaled) (one : Entry) (others : List En
     → let now : Journaled = if b then c else d in take most (now.journal ++ others) ≡ take most (c.journal ++ one ∷ others)
 pick most b c d one others full is = grind (arith, common_steps, gets)
 
-fits : (most : ℕ) (b : Bool) (c d : Journaled) (one : Entry) → (b ≡ false → length c.journal < most)
-    → length c.journal ≤ most → d.journal ≡ c.journal ++ one ∷ []
-    → let now : Journaled = if b then c else d in length now.journal ≤ most
-fits most b c d one room few is = grind (arith, common_steps, gets)
-
 pub not_full : (n most : ℕ) → n ≤ most → (n == most) ≡ false → n < most
 not_full n most few other = grind arith
 

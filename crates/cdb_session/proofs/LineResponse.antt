@@ -1,8 +1,7 @@
 -- What a session answers to one line.
 use Rattle.std.proofs.lemmas.Grind.{common_steps}
 use Rattle.std.proofs.lemmas.Option.{gets}
-use Rattle.std.proofs.Common.{rules, ◌≡◌, ◌≢◌, inr, ◌+◌, ℕ, Bool, true, List, [], ◌++◌, map, length, length-append, min, refl, sym, ap, subst, ◌∙◌, arith}
-use Rattle.std.proofs.Common.{Vec, Global}
+use Rattle.std.proofs.Common.{rules, ◌≡◌, ◌≢◌, inr, ◌+◌, ℕ, Bool, true, List, [], ◌++◌, map, length, length-append, min, sym, ap, subst, ◌∙◌, arith}
 use Rattle.std.specs.Prelude.{Option, Some, None, Result, Ok, Err, IfOk, is_some, if◌then◌else◌}
 use Rattle.cdb_commands.specs.ReplyView.{ReplyView}
 use Rattle.cdb_commands.specs.declared.command.Command.{Command}
@@ -11,7 +10,7 @@ use Rattle.cdb_session.specs.Moves.{WritesAll, Known, file, says}
 use Rattle.cdb_session.specs.Requests.{AsksFor}
 use Rattle.cdb_rules.specs.RunView.{RunView}
 use Rattle.cdb_session.specs.Answers.{AnswersNow}
-use Rattle.cdb_session.specs.Dialogues.{answer_text, prompt_after, savings_of}
+use Rattle.cdb_session.specs.Dialogues.{answer_text, own_response, prompt_after, savings_of}
 use Rattle.cdb_session.specs.Typed.{line_meant}
 use Rattle.cdb_session.specs.Exchanges.{Answer, Effect, Exchange}
 use Rattle.cdb_session.specs.declared.inquiry.Inquiry.{Inquiry}
@@ -20,11 +19,11 @@ use Rattle.cdb_session.specs.declared.request.Request.TheVariants.{Call, Ask}
 use Rattle.cdb_session.specs.declared.shown.Shown.{Shown}
 use Rattle.cdb_streams.specs.declared.buffer.OutputFault.{OutputFault}
 use Rattle.cdb_session.specs.Styles.{StyleView, Part, AreCalled, MakesNone}
-use Rattle.cdb_session.specs.Replies.{Along, own_response, responded}
+use Rattle.cdb_session.specs.Replies.{Along, responded}
 use Rattle.cdb_session.specs.News.{HasNews, watches}
 use Rattle.cdb_session.specs.Parts.{entries_of}
 use Rattle.cdb_session.specs.Unfinished.{IsHandled}
-use Rattle.cdb_session.specs.Lines.{SessionView, HasBegun, HasDone, HasLooked, IsToBeGiven, Responds, PutsOut, Shows, at_line, outputs_of}
+use Rattle.cdb_session.specs.Lines.{SessionView, HasBegun, HasDone, HasLooked, IsToBeGiven, IsText, PutsOut, Shows, at_line, outputs_of}
 use Rattle.cdb_session.proofs.GotReplies.{MakesNone-refl, begun_where_done, none_done, none_got}
 use Rattle.cdb_session.proofs.LaterParts.{news_on}
 
@@ -46,19 +45,19 @@ module _ (old mid new : Part) (none : MakesNone old mid) where
       omega (arith, ap length k.calls, length-append mid.calls made, ap length none.calls) in
       news_on mid new k.goes_on (length mid.calls) (length old.calls) mid.entries old.entries none.goes_on.longer many watched request seen news has
 
-module _ (Answers : RunView → Inquiry → Answer → Type 0) (style : StyleView) where
-  -- a text is shown, and nothing is saved
-  abbrev pub IsText : Shown → List ℕ → Type 0
-  IsText its text = (news : List ℕ) (saved : Bool) → outputs_of news its saved ≡ says (news ++ text)
+-- a line that asks for no command is begun with nothing
+nothing_due : (request : Request) → IsToBeGiven request []
+nothing_due request = search rules
 
+pub nothing_begun : (seat : ℕ) (old new : Part) (request : Request) → MakesNone old new → HasBegun seat old request new
+nothing_begun seat old new request none = record { got = []; calls = none_got seat request old new none; due = nothing_due request }
+
+module _ (Answers : RunView → Inquiry → Answer → Type 0) (style : StyleView) where
   module _ (effect : Effect) where
     abbrev with_answer : Answer → Effect
     with_answer answer = record effect { given = 0; answer = answer }
 
     -- the run was asked
-    pub ask_begins : (old new : SessionView) (inquiry : Inquiry) → MakesNone old.part new.part → HasBegun old.seat old.part (Ask inquiry) new.part
-    ask_begins old new inquiry none = record { got = []; calls = none_got old.seat (Ask inquiry) old.part new.part none; due = refl }
-
     pub ask_shows : {E : Type 0} (r : Result Shown E) (old new : SessionView) (inquiry : Inquiry) (answer : Answer)
         → MakesNone old.part new.part → AnswersNow Answers new.part inquiry answer
         → IfOk r (λ its. (news : List ℕ) (saved : Bool) → outputs_of news its saved
@@ -74,39 +73,22 @@ module _ (Answers : RunView → Inquiry → Answer → Type 0) (style : StyleVie
         put effect.news effect.saved,
       ),
     )
-    ask_shows (Err fault) old new inquiry answer none is put = ask_begins old new inquiry none
+    ask_shows (Err fault) old new inquiry answer none is put = nothing_begun old.seat old.part new.part (Ask inquiry) none
 
-    pub call_shows : (E F : Type 0) (text : Vec ℕ Global) (its : Shown) (old new : SessionView) (command : Command) (times : ℕ)
-        → Responds Answers style {E = E} effect (Ok text) old (Call command times) new → IsText its text.items
-        → PutsOut Answers style {E = F} effect (Ok its) old (Call command times) new
-    call_shows E F text its old new command times is put = search rules
-
-  -- a line that asks for no command and nothing of the run
-  nothing_due : (request : Request) → IsToBeGiven request []
-  nothing_due request = search rules
-
-  module _ (old new : SessionView) (same : new.part ≡ old.part) where
-    made_none : MakesNone old.part new.part
-    made_none = subst (MakesNone old.part) (sym same) (MakesNone-refl old.part)
-
-    own_done : (effect : Effect) (request : Request) → ((command : Command) (times : ℕ) → request ≢ Call command times)
-        → ((inquiry : Inquiry) → request ≢ Ask inquiry) → HasDone Answers old.seat old.part (request, with_answer effect (Ok [])) [] new.part
-    own_done effect request other and_other = search rules
-
-    pub own_begins : (request : Request) → HasBegun old.seat old.part request new.part
-    own_begins request = record { got = []; calls = none_got old.seat request old.part new.part made_none; due = nothing_due request }
-
-  -- its response depends on neither replies nor the run
+  -- a line that asks for no command and nothing of the run: its response depends on neither replies nor the run
   own_responded : (s : Along) (effect : Effect) (request : Request) → ((command : Command) (times : ℕ) → request ≢ Call command times)
-      → ((inquiry : Inquiry) → request ≢ Ask inquiry) → responded style s (request, effect) ≡ says (effect.news ++ own_response style s.lines request)
+      → ((inquiry : Inquiry) → request ≢ Ask inquiry) → responded style s (request, effect) ≡ says (effect.news ++ own_response style.chooses s.lines request)
   own_responded s effect request other and_other = grind (arith, common_steps, gets)
 
-  pub own_shows : (effect : Effect) (E : Type 0) (text : List ℕ) (its : Shown) (old new : SessionView) (request : Request) → new.part ≡ old.part
+  pub own_shows : (effect : Effect) (E : Type 0) (text : List ℕ) (its : Shown) (old : SessionView) (request : Request)
       → ((command : Command) (times : ℕ) → request ≢ Call command times) → ((inquiry : Inquiry) → request ≢ Ask inquiry)
-      → text ≡ own_response style old.lines request → IsText its text → PutsOut Answers style {E = E} effect (Ok its) old request new
-  own_shows effect E text its old new request same other and_other is put =
+      → text ≡ own_response style.chooses old.lines request → IsText its text → PutsOut Answers style {E = E} effect (Ok its) old request old
+  own_shows effect E text its old request other and_other is put =
       let shown = put effect.news effect.saved ∙ ap (λ response. says (effect.news ++ response)) is in
-      (0, Ok [], [], (own_done old new same effect request other and_other, shown ∙ sym (own_responded (at_line old []) _ request other and_other)))
+      let none = MakesNone-refl old.part in
+      let done =
+      none_done Answers old.seat old.part old.part request (with_answer effect (Ok [])) none other (λ inquiry asks. absurd (and_other inquiry asks)) in
+      (0, Ok [], [], (done, shown ∙ sym (own_responded (at_line old []) _ request other and_other)))
 
   -- ---- the news and the prompt
 

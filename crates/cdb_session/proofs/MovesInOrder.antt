@@ -5,7 +5,7 @@ use Rattle.std.proofs.Common.{rules, ◌≡◌, ℕ, ◌⊎◌, inl, inr, Bool, 
 use Rattle.std.proofs.Common.{length-append, Option, Some, None}
 use Rattle.std.specs.Io.KnownBytes.{Appends, Consumes}
 use Rattle.std.proofs.KnownBytes.{Appends-nil, Appends-trans, Consumes-nil, Consumes-trans}
-use Rattle.cdb_session.specs.Moves.{Known, Move, Read, ReadFailed, Wrote, WriteFailed, Saves, given_by, said_by, saved_by, written_by, read_in}
+use Rattle.cdb_session.specs.Moves.{Known, Move, Read, given_by, said_by, saved_by, written_by, read_in}
 use Rattle.cdb_session.specs.Moves.{said_in, saved_in, written_in, AsksForInput}
 use Rattle.cdb_session.specs.Moves.{AreWrites, EndsWith, FindsTheEnd, Continues, AreAllOf, Makes, count_on, is_failed_read, is_failed_write}
 
@@ -66,11 +66,7 @@ written-append moves made = flat_map-append written_by moves made
 -- writes read nothing
 pub nothing_read : (made : List Move) → AreWrites made → read_in made ≡ []
 nothing_read [] are = refl
-nothing_read (Read bytes ∷ made) are = absurd (are.0 tt)
-nothing_read (ReadFailed ∷ made) are = absurd (are.0 tt)
-nothing_read (Wrote bytes ∷ made) are = nothing_read made are.1
-nothing_read (WriteFailed ∷ made) are = nothing_read made are.1
-nothing_read (Saves saving ∷ made) are = nothing_read made are.1
+nothing_read (move ∷ made) are = grind (arith, common_steps, gets, nothing_read made)
 
 -- what is known, one list after the other
 pub Continues-nothing : {A : Type 0} (known : Option (List A)) → Continues known known []

@@ -21,8 +21,8 @@ use Rattle.cdb_session.specs.Moves.{Move, Output, Read, ReadFailed, says, given_
 use Rattle.cdb_session.specs.Moves.{AreWrites, FailsToWrite, EndsWith}
 use Rattle.cdb_session.specs.Replies.{Along, begun_along, dialogue}
 use Rattle.cdb_session.specs.Requests.{HasNoEnd, Asks, AsksFor, AsksForNoLess, AreAsked, HaveQuit, ended_lines, up_to_quit}
-use Rattle.cdb_session.specs.Served.{IsAnswered, IsServed, IsSession}
-use Rattle.cdb_session.specs.Sessions.{most_input, HasEnded, IsOpen, HasResponded, RespondsInTime, at_end, at_most}
+use Rattle.cdb_session.specs.Served.{IsAnswered, IsServed, IsCutShort, IsSession}
+use Rattle.cdb_session.specs.Sessions.{most_input, EndsAs, HasEnded, IsOpen, HasResponded, RespondsInTime, at_end, at_most}
 use Rattle.cdb_session.specs.Styles.{StyleView, Part}
 use Rattle.cdb_session.specs.Typed.{line_meant}
 use Rattle.cdb_session.specs.Unfinished.{IsOver, with_ends, unfinished_of, part_with, ended_well, ended_by, IsAlong, StaysAt}
@@ -74,6 +74,13 @@ in_time_at_first : (Responds : List (List ℕ) → List Output → Type 0) (made
 in_time_at_first Responds made writes = writes_more (HasResponded Responds) [] made (nothing_asked (HasResponded Responds)) writes
 
 module _ {Answers : RunView → Inquiry → Answer → Type 0} {style : StyleView} where
+  -- a session ends so whose lines have their responses
+  pub ended : {part : Part} {exchanges : List Exchange} {moves : List Move} {along : Along}
+      → IsAlong Answers style part.replies exchanges moves part along → (returned : Result (Unit {0}) PlayFault)
+      → EndsAs (IsAnswered Answers style part) (IsServed Answers style part) (IsCutShort Answers style part) returned moves
+      → IsSession Answers style part returned moves
+  ended {part} {exchanges} its returned ends = record { in_time = its.in_time part [] (no_further Answers style part exchanges its.commands); ends = ends }
+
   -- where no reply follows, the replies are those of the seat
   pub finish : (part : Part) (returned : Result (Unit {0}) PlayFault) (moves : List Move)
       → IsSession Answers style (part_with (part.replies ++ []) part) returned moves → IsSession Answers style part returned moves
@@ -95,6 +102,9 @@ module _ {Answers : RunView → Inquiry → Answer → Type 0} {style : StyleVie
       goes_on = at.goes_on;
       along = at.along;
     }
+
+    settled : IsAlong Answers style session.part.replies at.exchanges moves session.part (at_line session [])
+    settled = rw append-nil at (at.along [] (λ full. refl))
 
     asked_so_far : AreAsked at.exchanges at.lines
     asked_so_far =
@@ -197,15 +207,12 @@ module _ {Answers : RunView → Inquiry → Answer → Type 0} {style : StyleVie
       → let outcome : Result (Unit {0}) PlayFault = Err fault.Read in IsSession Answers style session.part outcome (moves ++ ReadFailed ∷ [])
   read_failed {moves} {session} at still =
       let now = asked_once at still ReadFailed refl in
-      let its = now.along [] (λ full. refl) in
-      let part : Part = part_with (session.part.replies ++ []) session.part in
-      let responded =
-      so_far now (open_read moves ReadFailed still (λ is. cc)) (IsServed Answers style part) (now.exchanges, asked_so_far now, its.written, its.commands) in
-      finish session.part (Err fault.Read) (moves ++ ReadFailed ∷ [])
-      (record {
-        in_time = its.in_time session.part [] (no_further Answers style part now.exchanges its.commands);
-        ends = (responded, (moves, ReadFailed, refl, refl));
-      })
+      let its = settled now in
+      ended its (Err fault.Read) (
+        so_far now (open_read moves ReadFailed still (λ is. cc)) (IsServed Answers style session.part)
+            (now.exchanges, asked_so_far now, its.written, its.commands),
+        (moves, ReadFailed, refl, refl),
+      )
 
   -- ---- a line stands there whole
 
@@ -240,17 +247,12 @@ module _ {Answers : RunView → Inquiry → Answer → Type 0} {style : StyleVie
           let lines : lines_of (read_in moves) ≡ at.lines =
           ap lines_of (at.read ∙ ap (λ last. with_ends at.lines ++ (last ++ [])) no_line)
           ∙ lines_of_joined at.lines [] at.ended ∙ ap (λ last. at.lines ++ last) lines_of_none ∙ append-nil at.lines in
-          let its = at.along [] (λ full. refl) in
-          let part : Part = part_with (session.part.replies ++ []) session.part in
-          finish session.part ended_well moves
-          (record {
-            in_time = its.in_time session.part [] (no_further Answers style part at.exchanges its.commands);
-            ends = record {
-              responded =
-                  subst (λ parts. IsServed Answers style part parts (written_in moves)) (sym lines)
-                  (at.exchanges, asked_so_far at, its.written, its.commands);
-              ended = subst HasEnded (append-nil moves) (over_more moves [] tt over);
-            };
+          let its = settled at in
+          ended its ended_well (record {
+            responded =
+                subst (λ parts. IsServed Answers style session.part parts (written_in moves)) (sym lines)
+                (at.exchanges, asked_so_far at, its.written, its.commands);
+            ended = subst HasEnded (append-nil moves) (over_more moves [] tt over);
           })
 
   -- ---- before the first line

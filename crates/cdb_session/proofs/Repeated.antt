@@ -1,24 +1,25 @@
 -- A command that is given several times, one time after the other.
-use Rattle.std.proofs.Common.{rules, ◌≡◌, inl, inr, ℕ, zero, suc, ◌+◌, ◌-◌, ◌<◌, Bool, true, false, List, [], ◌∷◌, ◌++◌, length, refl, sym, ap, ◌∙◌}
-use Rattle.std.proofs.Common.{append_assoc, append-nil, arith, length-append, Vec, Global}
+use Rattle.std.proofs.lemmas.Grind.{common_steps}
+use Rattle.std.proofs.Common.{◌≡◌, ℕ, zero, suc, ◌+◌, ◌-◌, ◌<◌, ◌≤◌, Bool, true, false, List, [], ◌∷◌, ◌++◌, length, refl, sym, ap, ◌∙◌}
+use Rattle.std.proofs.Common.{append_assoc, append-nil, arith, length-append}
 use Rattle.std.specs.Prelude.{if◌then◌else◌, replicate, Ok, Err}
 use Rattle.std.specs.List.{AllByRecursion}
-use Rattle.std.proofs.lemmas.List.{replicate_more}
+use Rattle.std.proofs.lemmas.List.{nil_from_length, replicate-append-replicate}
 use Rattle.cdb_commands.specs.ReplyView.{ReplyView, is_refused}
 use Rattle.cdb_commands.specs.declared.command.Command.{Command}
 use Rattle.cdb_control.specs.Journal.{entry}
 use Rattle.cdb_control.specs.declared.control.Entry.{Entry}
 use Rattle.cdb_rules.proofs.Alls.{all-append}
 use Rattle.cdb_rules.specs.RunView.{RunView}
-use Rattle.cdb_text.specs.Texts.{text_of}
-use Rattle.cdb_session.specs.Dialogues.{full_text}
-use Rattle.cdb_session.specs.Lines.{SessionView, HasBegun, Responds, GivesOnce}
+use Rattle.cdb_session.specs.Lines.{SessionView, HasBegun, PutsOut, GivesOnce, IsText, is_last}
+use Rattle.cdb_session.specs.Moves.{says}
 use Rattle.cdb_session.specs.Repeats.{times_given}
 use Rattle.cdb_session.specs.Replies.{replies_text}
-use Rattle.cdb_session.specs.Styles.{StyleView, Part, AreCalled, IsCalled, MakesNone}
+use Rattle.cdb_session.specs.Styles.{StyleView, Part, IsFull, AreCalled}
 use Rattle.cdb_session.specs.Exchanges.{Answer, Effect}
 use Rattle.cdb_session.specs.declared.inquiry.Inquiry.{Inquiry}
 use Rattle.cdb_session.specs.declared.request.Request.TheVariants.{Call}
+use Rattle.cdb_session.specs.declared.shown.Shown.{Shown}
 use Rattle.cdb_session.proofs.GotReplies.{GoesOn-trans, MakesNone-refl, none_called}
 
 abbrev IsCarriedOut : ReplyView → Type 0
@@ -33,160 +34,116 @@ pub record HasRepeated (seat : ℕ) (command : Command) (old : Part) (got : List
 pub begun_repeat : (seat : ℕ) (command : Command) (part : Part) → HasRepeated seat command part [] part []
 begun_repeat seat command part = record { calls = none_called part part (MakesNone-refl part); carried_out = tt; text_is = refl }
 
--- ---- one time more
-
 texts_more : (got more : List ReplyView) (n all : ℕ) → all ≡ length got + n
     → replies_text all (got ++ more) ≡ replies_text (length got) got ++ replies_text n more
-texts_more [] more n all is = ap (λ (count : ℕ). replies_text count more) (let e : all ≡ n = omega (arith, is) in e)
+texts_more [] more n all is = grind (arith, common_steps)
 texts_more (reply ∷ got) more n zero is = absurd (omega (arith, is))
-texts_more (reply ∷ got) more n (suc all) is =
-    ap (λ text. text_of reply ++ text) (texts_more got more n all (omega (arith, is)))
-    ∙ sym (append_assoc (text_of reply) (replies_text (length got) got) (replies_text n more))
+texts_more (reply ∷ got) more n (suc all) is = grind (arith, common_steps, texts_more got more n all)
 
 given_more : (got more : List ReplyView) (n all : ℕ) → AllByRecursion IsCarriedOut got
     → all ≡ length got + n → times_given all (got ++ more) ≡ length got + times_given n more
-given_more [] more n all are is =
-    let e : times_given all more ≡ times_given n more = ap (λ (count : ℕ). times_given count more) (let same : all ≡ n = omega (arith, is) in same) in
-    omega (arith, e)
+given_more [] more n all are is = grind (arith, common_steps)
 given_more (reply ∷ got) more n zero are is = absurd (omega (arith, is))
-given_more (reply ∷ got) more n (suc all) are is =
-    let rest = given_more got more n all are.1 (omega (arith, is)) in
-    let e : is_refused reply ≡ false = are.0 in
-    rw e (omega (arith, rest))
+given_more (reply ∷ got) more n (suc all) are is = grind (arith, common_steps, given_more got more n all are.1)
 
-one_longer : (got : List ReplyView) (reply : ReplyView) → length (got ++ reply ∷ []) ≡ length got + 1
-one_longer got reply = length-append got (reply ∷ [])
+-- a reply, or none
+given_one : (got : List ReplyView) → length got ≤ 1 → times_given (length got) got ≡ length got
+given_one [] few = refl
+given_one (reply ∷ []) few = picked (is_refused reply)
+  where
+    picked : (refused : Bool) → (let given : ℕ = if refused then 1 else (1 + 0) in given ≡ 1)
+    picked true = refl
+    picked false = refl
+given_one (reply ∷ other ∷ got) few = absurd (omega (arith, few))
 
-once_more : (one : Entry) (got : List ReplyView) (old now new : Part) (reply : ReplyView) → AreCalled old (replicate (length got) one) got now
-    → IsCalled now one reply new → AreCalled old (replicate (length (got ++ reply ∷ [])) one) (got ++ reply ∷ []) new
-once_more one got old now new reply a k =
+given_last : (times : ℕ) (got : List ReplyView) → is_last got ≡ true → times_given (suc times) got ≡ 1
+given_last times [] is = refl
+given_last times (reply ∷ got) is = let e : is_refused reply ≡ true = is in rw e refl
+
+module _ {seat : ℕ} {command : Command} {old now : Part} {before : List ℕ} (got : List ReplyView) (so : HasRepeated seat command old got now before) where
+  calls_more : (more : List ReplyView) (new : Part) → AreCalled now (replicate (length more) (entry seat command)) more new
+      → AreCalled old (replicate (length (got ++ more)) (entry seat command)) (got ++ more) new
+  calls_more more new k =
+      let one : Entry = entry seat command in
+      record {
+        goes_on = GoesOn-trans old now new so.calls.goes_on k.goes_on;
+        calls =
+            k.calls ∙ ap (λ (calls : List Entry). calls ++ replicate (length more) one) so.calls.calls
+            ∙ append_assoc old.calls (replicate (length got) one) (replicate (length more) one)
+            ∙ ap (λ (made : List Entry). old.calls ++ made) (replicate-append-replicate (length got) (length more) one
+            ∙ ap (λ (n : ℕ). replicate n one) (sym (length-append got more)));
+        replies = k.replies ∙ ap (λ (replies : List ReplyView). replies ++ more) so.calls.replies ∙ append_assoc old.replies got more;
+        full = λ full. (let first = so.calls.full full in let second = k.full first.1 in (λ i. first.0 i ++ second.0 i, second.1));
+      }
+
+  text_more : (more : List ReplyView) (all : ℕ) {text : List ℕ} → all ≡ length got + 1 → text ≡ before ++ replies_text 1 more
+      → text ≡ replies_text all (got ++ more)
+  text_more more all one said = said ∙ ap (λ front. front ++ replies_text 1 more) so.text_is ∙ sym (texts_more got more 1 all one)
+
+  -- one time more
+  pub repeated_more : (E : Type 0) (last : Bool) (text : List ℕ) (new : Part) → GivesOnce {E = E} (Ok last) now (entry seat command) before text new
+      → last ≡ false → (reply : ReplyView) × HasRepeated seat command old (got ++ reply ∷ []) new text
+  repeated_more E last text new ([], k, few, said) goes_on = absurd (let e : true ≡ false = sym said.1 ∙ goes_on in cc)
+  repeated_more E last text new (reply ∷ [], k, few, said) goes_on = (
+    reply,
     record {
-      goes_on = GoesOn-trans old now new a.goes_on k.goes_on;
-      calls =
-          k.calls ∙ ap (λ (calls : List Entry). calls ++ one ∷ []) a.calls ∙ append_assoc old.calls (replicate (length got) one) (one ∷ [])
-          ∙ ap (λ (made : List Entry). old.calls ++ made) (replicate_more (length got) one ∙ ap (λ (n : ℕ). replicate n one) (sym (one_longer got reply)));
-      replies = k.replies ∙ ap (λ (replies : List ReplyView). replies ++ reply ∷ []) a.replies ∙ append_assoc old.replies got (reply ∷ []);
-      full = λ full. absurd (k.room (a.full full).1);
-    }
-
-none_more : (made : List Entry) (got : List ReplyView) (old now new : Part) → AreCalled old made got now → MakesNone now new → AreCalled old made got new
-none_more made got old now new a k = search rules
-
-text_more : (got : List ReplyView) (reply : ReplyView) (before text : List ℕ) → before ≡ replies_text (length got) got
-    → text ≡ before ++ text_of reply → replies_text (length (got ++ reply ∷ [])) (got ++ reply ∷ []) ≡ text
-text_more got reply before text is more =
-    texts_more got (reply ∷ []) 1 (length (got ++ reply ∷ [])) (one_longer got reply) ∙ (λ i. sym is i ++ append-nil (text_of reply) i) ∙ sym more
-
-pub repeated_more : (seat : ℕ) (command : Command) (old : Part) (got : List ReplyView) (now : Part) (before : List ℕ) → HasRepeated seat command old got
-    now before → (E : Type 0) (last : Bool) (text : List ℕ) (new : Part) → GivesOnce {E = E} (Ok last) now (entry seat command) before text new → last ≡ false
-    → (reply : ReplyView) × HasRepeated seat command old (got ++ reply ∷ []) new text
-repeated_more seat command old got now before so E last text new (inl (reply, call, refused, is)) goes_on = (
-  reply,
-  record {
-    calls = once_more (entry seat command) got old now new reply so.calls call;
-    carried_out =
-        all-append IsCarriedOut got (reply ∷ []) so.carried_out (sym refused ∙ goes_on, tt);
-    text_is = sym (text_more got reply before text so.text_is is);
-  },
-)
-repeated_more seat command old got now before so E last text new (inr (none, full, refused, is)) goes_on =
-    absurd (let e : true ≡ false = sym refused ∙ goes_on in cc)
+      calls = calls_more (reply ∷ []) new k;
+      carried_out = all-append IsCarriedOut got (reply ∷ []) so.carried_out (sym said.1 ∙ goes_on, tt);
+      text_is = text_more (reply ∷ []) _ (length-append got (reply ∷ [])) said.2;
+    },
+  )
+  repeated_more E last text new (reply ∷ other ∷ more, k, few, said) goes_on = absurd (omega (arith, few))
 
 -- ---- the end
 
-module _ (Answers : RunView → Inquiry → Answer → Type 0) (style : StyleView) (effect : Effect) (old : SessionView) (command : Command) (times : ℕ)
-    (got : List ReplyView) where
-  abbrev Repeated : Part → List ℕ → Type 0
-  Repeated now text = HasRepeated old.seat command old.part got now text
-
-  -- it was given as often as it was to be
-  pub all_given : (E : Type 0) (text : Vec ℕ Global) (new : SessionView) → Repeated new.part text.items
-      → length got ≡ times → Responds Answers style {E = E} effect (Ok text) old (Call command times) new
-  all_given E text new so all = (
-    length got,
+module _ (Answers : RunView → Inquiry → Answer → Type 0) (style : StyleView) (effect : Effect) (old : SessionView) {command : Command} (times : ℕ)
+    (got : List ReplyView) {now : Part} {before : List ℕ} (so : HasRepeated old.seat command old.part got now before) where
+  -- the replies were these, and it was given so often
+  put_out : (E : Type 0) (text : List ℕ) (its : Shown) (new : SessionView) (all : List ReplyView) (count : ℕ)
+      → AreCalled old.part (replicate (length all) (entry old.seat command)) all new.part
+      → (count ≡ times_given times all) × (length all ≤ count) × (length all < count → IsFull new.part) × (text ≡ replies_text count all)
+      → IsText its text → PutsOut Answers style {E = E} effect (Ok its) old (Call command times) new
+  put_out E text its new all count calls (given, fits, full, is) puts = (
+    count,
     Ok [],
-    got,
+    all,
     (
-      record {
-        calls = so.calls;
-        given = (let e = ap (times_given times) (append-nil got) in omega (arith, e, all, given_more got [] 0 times so.carried_out (omega (arith, all))));
-        fits = omega arith;
-        full = λ low. absurd (omega (arith, low));
-        answer = λ inquiry asks. absurd cc;
-      },
-      so.text_is,
+      record { calls = calls; given = given; fits = fits; full = full; answer = λ inquiry asks. absurd cc },
+      puts effect.news effect.saved ∙ ap (λ response. says (effect.news ++ response)) is,
     ),
   )
 
-  module _ (low : length got < times) (now : Part) (before : List ℕ) (so : Repeated now before) where
-    left : (rest : ℕ) × (times ≡ length got + suc rest)
-    left = let n : ℕ = times - suc (length got) in (n, omega (arith, low))
+  -- it was given as often as it was to be
+  pub all_given : (E : Type 0) (its : Shown) (new : SessionView) → new.part ≡ now → length got ≡ times → IsText its before
+      → PutsOut Answers style {E = E} effect (Ok its) old (Call command times) new
+  all_given E its new same all puts =
+      let given = rw append-nil at (given_more got [] 0 times so.carried_out (omega (arith, all))) in
+      put_out E before its new got (length got) (rw same so.calls)
+      (omega (arith, given), omega arith, λ low. absurd (omega (arith, low)), so.text_is) puts
 
+  module _ (low : length got < times) where
     -- the last time it was refused, or found the journal full
-    pub last_given : (E : Type 0) (text : Vec ℕ Global) (new : SessionView) (last : Bool) → GivesOnce {E = E} (Ok last) now
-        (entry old.seat command) before text.items new.part → last ≡ true → Responds Answers style {E = E} effect (Ok text) old (Call command times) new
-    last_given E text new last (inl (reply, call, refused, is)) ends =
-        let is_last : is_refused reply ≡ true = sym refused ∙ ends in
-        let one : times_given (suc left.0) (reply ∷ []) ≡ 1 = rw is_last refl in
-        let all : times_given times (got ++ reply ∷ []) ≡ length (got ++ reply ∷ []) =
-        omega (arith, given_more got (reply ∷ []) (suc left.0) times so.carried_out left.1, one, one_longer got reply) in (
-          length (got ++ reply ∷ []),
-          Ok [],
-          got ++ reply ∷ [],
-          (
-            record {
-              calls = once_more (entry old.seat command) got old.part now new.part reply so.calls call;
-              given = sym all;
-              fits = omega arith;
-              full = λ short. absurd (omega (arith, short));
-              answer = λ inquiry asks. absurd cc;
-            },
-            sym (text_more got reply before text.items so.text_is is),
-          ),
-        )
-    last_given E text new last (inr (none, full, refused, is)) ends =
-        let e = ap (times_given times) (append-nil got) in
-        let all : times_given times got ≡ length got + 1 = omega (arith, e, given_more got [] (suc left.0) times so.carried_out left.1) in
-        let f = ap (replies_text (length got + 1)) (append-nil got) in (
-          length got + 1,
-          Ok [],
-          got,
-          (
-            record {
-              calls = none_more (replicate (length got) (entry old.seat command)) got old.part now new.part so.calls none;
-              given = sym all;
-              fits = omega arith;
-              full = λ short. full;
-              answer = λ inquiry asks. absurd cc;
-            },
-            is ∙ (λ i. so.text_is i ++ sym (append-nil full_text) i) ∙ sym (texts_more got [] 1 (length got + 1) refl) ∙ f,
-          ),
-        )
+    pub last_given : (E F : Type 0) (last : Bool) (text : List ℕ) (its : Shown) (new : SessionView)
+        → GivesOnce {E = F} (Ok last) now (entry old.seat command) before text new.part → last ≡ true → IsText its text
+        → PutsOut Answers style {E = E} effect (Ok its) old (Call command times) new
+    last_given E F last text its new (more, k, few, (full, is, said)) ends puts =
+        let left : ℕ = times - suc (length got) in
+        let one = given_last left more (sym is ∙ ends) in
+        let many = length-append got more in
+        put_out E text its new (got ++ more) (length got + 1) (calls_more got so more new.part k) (
+          omega (arith, given_more got more (suc left) times so.carried_out (omega (arith, low)), one),
+          omega (arith, many, few),
+          λ short. full (nil_from_length more (omega (arith, short, many))),
+          text_more got so more (length got + 1) refl said,
+        ) puts
 
     -- memory is out
-    pub cut_short : (E : Type 0) (why : E) (text : List ℕ) (new : SessionView)
-        → GivesOnce {E = E} (Err why) now (entry old.seat command) before text new.part → HasBegun old.seat old.part (Call command times) new.part
-    cut_short E why text new (inl none) =
-        let e = ap (times_given (length got)) (append-nil got) in
-        let all : times_given (length got) got ≡ length got = omega (arith, e, given_more got [] 0 (length got) so.carried_out (omega arith)) in
+    pub cut_short : (F : Type 0) (why : F) (text : List ℕ) (new : SessionView)
+        → GivesOnce {E = F} (Err why) now (entry old.seat command) before text new.part → HasBegun old.seat old.part (Call command times) new.part
+    cut_short F why text new (more, k, few, none) =
+        let many = length-append got more in
         record {
-          got = got;
-          calls = none_more (replicate (length got) (entry old.seat command)) got old.part now new.part so.calls none;
-          due = (omega (arith, low), all);
+          got = got ++ more;
+          calls = calls_more got so more new.part k;
+          due = (omega (arith, low, many, few), omega (arith, given_more got more (length more) _ so.carried_out many, given_one more few, many));
         }
-    cut_short E why text new (inr (reply, call)) =
-        let count : ℕ = length (got ++ reply ∷ []) in
-        let all : times_given count (got ++ reply ∷ []) ≡ count =
-        omega (arith, given_more got (reply ∷ []) 1 count so.carried_out (one_longer got reply), one_given reply, one_longer got reply) in
-        record {
-          got = got ++ reply ∷ [];
-          calls = once_more (entry old.seat command) got old.part now new.part reply so.calls call;
-          due = (omega (arith, low, one_longer got reply), all);
-        }
-      where
-        picked : (refused : Bool) → (let given : ℕ = if refused then 1 else (1 + 0) in given ≡ 1)
-        picked true = refl
-        picked false = refl
-
-        one_given : (reply : ReplyView) → times_given 1 (reply ∷ []) ≡ 1
-        one_given reply = picked (is_refused reply)

@@ -3,7 +3,7 @@ use Rattle.std.proofs.lemmas.Grind.{common_steps}
 use Rattle.std.proofs.lemmas.Option.{gets}
 use Rattle.std.proofs.Common.{rules, ◌≡◌, inl, inr, ℕ, zero, suc, ◌+◌, ◌-◌, ◌<◌, ◌≤◌, ◌==◌, Bool, true, false, List, [], ◌∷◌, ◌++◌, length, take, drop, min}
 use Rattle.std.proofs.Common.{refl, sym, ap, subst, ◌∙◌, append_assoc, append-nil, arith, length-append}
-use Rattle.std.specs.Prelude.{if◌then◌else◌, map, replicate, is_some, unwrap_or, MatchBool, Option, None}
+use Rattle.std.specs.Prelude.{map, replicate, is_some, unwrap_or, MatchBool, Option, None}
 use Rattle.std.specs.List.{AllByRecursion}
 use Rattle.std.proofs.Math.Seq.{drop-append_seam, take-append_seam, take-append-add}
 use Rattle.std.proofs.lemmas.Bool.{cases_Bool, cases_lt}
@@ -263,19 +263,12 @@ module _ (Answers : RunView → Inquiry → Answer → Type 0) (greeting prompt 
         subst (λ (r : RunView). Answers r inquiry answer) run answers
 
     -- after a command
-    same_setup : (full : Bool) (kept other : Journaled) → other.setup ≡ kept.setup
-        → other.seats ≡ kept.seats → let now : Journaled = if full then kept else other in
-        (now.setup ≡ kept.setup) × (now.seats ≡ kept.seats)
-    same_setup full kept other setup seats = grind (arith, common_steps, gets)
-
     same_setup_all : (its : Parts → Rules) (seat : ℕ) (command : Command) (control : Journaled) (count : ℕ)
         → let now = table.control_behind_all its seat command control count in
         (now.setup ≡ control.setup) × (now.seats ≡ control.seats)
     same_setup_all its seat command control zero = (refl, refl)
     same_setup_all its seat command control (suc count) =
-        let first = same_setup (length control.journal == MAX_ENTRIES) control (extended its control seat command) refl refl in
-        let others = same_setup_all its seat command (table.control_behind its seat command control) count in
-        (others.0 ∙ first.0, others.1 ∙ first.1)
+        grind (arith, common_steps, same_setup_all its seat command (table.control_behind its seat command control) count)
 
     then_there : {s : table.Session} {asked : List Entry} {command : Command} {times : ℕ} {effect : Effect} {exchanges : List Exchange} {count : ℕ}
         → IsThere s asked ((Call command times, effect) ∷ exchanges) count

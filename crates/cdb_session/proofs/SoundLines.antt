@@ -1,83 +1,37 @@
 -- A line in which nothing is amiss is one that a session takes.
 use Rattle.std.proofs.lemmas.Grind.{common_steps}
 use Rattle.std.proofs.lemmas.Option.{gets}
-use Rattle.std.proofs.Common.{◌≡◌, inl, inr, ℕ, ◌+◌, true, false, cond, ◌||◌, List, [], ◌∷◌, ◌++◌, map, decimal, refl, sym, ap, subst, ◌∙◌, arith, rules}
-use Rattle.std.proofs.Common.{append-nil, append_assoc}
+use Rattle.std.proofs.Common.{◌≡◌, inl, inr, ℕ, ◌+◌, true, false, ◌||◌, List, [], ◌∷◌, decimal, refl, sym, ap, subst, ◌∙◌, arith, rules}
 use Rattle.std.specs.List.{AllByRecursion, list_any, join_with_byte}
-use Rattle.std.specs.Prelude.{codes, Option, None, Some, ◌⊎◌}
+use Rattle.std.specs.Prelude.{codes, map, Option, None, Some, Result, Ok, Err, is_some, is_ok, ◌⊎◌}
 use Rattle.std.specs.Str.{bytes_eq}
-use Rattle.std.specs.Str.Parse.{digits_value}
 use Rattle.std.proofs.Math.Bool.{or-false}
-use Rattle.std.proofs.lemmas.Bool.{and_parts, cases_Bool, or_cases, or_left}
+use Rattle.std.proofs.lemmas.Bool.{and_parts, cases_Bool}
 use Rattle.std.proofs.lemmas.Fmt.{decimal_digit}
 use Rattle.std.proofs.lemmas.List.Splits.{join_with_byte-slice_split}
 use Rattle.std.proofs.lemmas.Slice.Eq.{bytes_eq-Decides}
-use Rattle.cdb_base.specs.declared.act.Act.TheVariants as act
-use Rattle.cdb_base.specs.declared.register.Reg.{Reg}
-use Rattle.cdb_base.specs.declared.register.Reg.TheVariants.{R, Dec}
 use Rattle.cdb_setup.specs.Parts.{IsWithin}
 use Rattle.cdb_commands.specs.declared.command.Command.{Command}
-use Rattle.cdb_commands.specs.declared.command.Command.TheVariants as command
-use Rattle.cdb_commands.specs.declared.command.Stop.TheVariants as stop
-use Rattle.cdb_commands.specs.declared.command.View.TheVariants as view
-use Rattle.cdb_text.proofs.Numbers.{number_says}
-use Rattle.cdb_text.specs.Commands.{number, register, command_parts}
-use Rattle.cdb_text.specs.Grammar.{HasNumbersInRange, IsInRange, IsLineOf, part_text, words_of}
+use Rattle.cdb_text.proofs.Whole.{one_command}
+use Rattle.cdb_text.specs.Grammar.{IsLineOf, words_of}
+use Rattle.cdb_text.specs.Lines.{after_process, after_step, after_break, after_show, after_verb, whole_line}
 use Rattle.cdb_text.specs.Numbers.{number_of}
-use Rattle.cdb_text.specs.Numbers as reading
+use Rattle.cdb_text.specs.Readers.{read_by, register_named}
+use Rattle.cdb_text.specs.declared.fault.LineFault.{LineFault}
 use Rattle.cdb_session.specs.declared.due.Due.{Due}
 use Rattle.cdb_session.specs.declared.due.Due.TheVariants as due
 use Rattle.cdb_session.specs.declared.inquiry.Inquiry.{Inquiry}
-use Rattle.cdb_session.specs.declared.inquiry.Inquiry.TheVariants.{Explain, Trail, Draw}
 use Rattle.cdb_session.specs.declared.topic.Topic.{Topic}
 use Rattle.cdb_session.specs.declared.topic.Topic.TheVariants as topic
-use Rattle.cdb_session.specs.Due.{amiss_in, with_file, with_process, behind, behind_act, behind_first, behind_stop, copy, dues_of, event, first_amiss}
-use Rattle.cdb_session.specs.Due.{is_number, may_stand, nothing}
-use Rattle.cdb_session.specs.Inquiries.{AreInquiryWords, inquiry_word, numbers_of}
-use Rattle.cdb_session.specs.InquiryWords.{step_with}
+use Rattle.cdb_session.specs.Due.{amiss_in, with_process, behind, behind_act, behind_first, dues_of, first_amiss}
+use Rattle.cdb_session.specs.Due.{is_number, may_stand, nothing, registers}
+use Rattle.cdb_session.specs.InquiryWords.{step_in, any_step_in, drawing_in, inquiry_in, repeat_in}
 use Rattle.cdb_session.specs.Laws.{SoundLinesAreTaken}
 use Rattle.cdb_session.specs.Requests.{IsOwn, most_seats}
 use Rattle.cdb_session.specs.Topics.{topic_of, topic_word, topics}
-use Rattle.cdb_session.specs.Typed.{acts, first_words, second_words}
+use Rattle.cdb_session.specs.Typed.{acts, first_words}
 use Rattle.cdb_session.proofs.HelpLines.{its_topic}
-
--- ---- the words that may stand at a place
-
-is_read : (word : List ℕ) → is_number word ≡ true → number_of word ≡ Some (digits_value 10 word)
-unfolding number_of reading.is_number
-is_read word is = grind (arith, common_steps, gets)
-
-abbrev IsNumber : List ℕ → Type 0
-IsNumber word = (n : ℕ) × IsInRange (number n) × (word ≡ decimal n)
-
-a_number : (word : List ℕ) → (is_number word || false) ≡ true → IsNumber word
-a_number word is = let says = number_says word (digits_value 10 word) (is_read word (rw or-false at is)) in (digits_value 10 word, (says.1, says.2), says.0)
-
-abbrev IsAmong : List ℕ → List (List ℕ) → Type 0
-IsAmong word [] = ⊥
-IsAmong word (option ∷ options) = (word ≡ option) ⊎ IsAmong word options
-
-among : (word : List ℕ) (options : List (List ℕ)) → list_any (bytes_eq word) options ≡ true → IsAmong word options
-among word [] is = absurd cc
-among word (option ∷ options) is =
-    elim (cases_Bool (bytes_eq word option)) [
-      | inl h ↦ inl ((bytes_eq-Decides word option).0 h)
-      | inr h ↦ inr (among word options (rw h at is))
-    ]
-
--- one of some words is that of one of these values
-one_of : {X : Type 0} (P : X → Type 0) (f : X → List ℕ) (xs : List X) → AllByRecursion P xs
-    → (word : List ℕ) → list_any (bytes_eq word) (map f xs) ≡ true → (x : X) × P x × (word ≡ f x)
-one_of P f [] all word is = absurd cc
-one_of P f (x ∷ xs) all word is =
-    elim (cases_Bool (bytes_eq word (f x))) [
-      | inl h ↦ (x, all.0, (bytes_eq-Decides word (f x)).0 h)
-      | inr h ↦ one_of P f xs all.1 word (rw h at is)
-    ]
-
--- a word that may begin a line
-a_topic : (word : List ℕ) → list_any (bytes_eq word) first_words ≡ true → (t : Topic) × Unit {0} × (word ≡ topic_word t)
-a_topic word is = one_of (λ t. Unit {0}) topic_word topics (search rules) word is
+use Rattle.cdb_session.proofs.InquiryLines.{inquiry_says, repeat_says}
 
 -- ---- nothing is amiss from some place on
 
@@ -100,142 +54,119 @@ over words is = grind (arith, common_steps, gets)
 abbrev IsTaken : List (List ℕ) → Type 0
 IsTaken words = (line : List ℕ) → words_of line ≡ words → IsOwn line ⊎ ((command : Command) × IsLineOf command line)
 
-command_taken : (command : Command) → HasNumbersInRange command → IsTaken (map part_text (command_parts command))
-command_taken command range line are = inr (command, (are, range))
+-- they are read as a command
+abbrev IsRead : List (List ℕ) → Type 0
+IsRead words = is_ok (read_by whole_line words) ≡ true
 
-inquiry_taken : (inquiry : Inquiry) (others : List (List ℕ)) → AreInquiryWords inquiry others → IsTaken (inquiry_word inquiry ∷ others)
-inquiry_taken inquiry others its line are = inl (inr (inr (inr (inl (inquiry, (others, are, its))))))
+read_taken : (words : List (List ℕ)) → IsRead words → IsTaken words
+read_taken words is line are = found (read_by whole_line words) refl is
+  where
+    found : (read : Result Command LineFault) → read_by whole_line words ≡ read → is_ok read ≡ true → IsOwn line ⊎ ((command : Command) × IsLineOf command line)
+    found (Ok command) reads is = inr (command, rw are ((one_command words command).0 reads))
+    found (Err fault) reads is = absurd cc
+
+-- or as what is asked of the run
+inquiry_taken : (words : List (List ℕ)) → is_some (inquiry_in words) ≡ true → IsTaken words
+inquiry_taken words is line are = found (inquiry_in words) refl is
+  where
+    found : (read : Option Inquiry) → inquiry_in words ≡ read → is_some read ≡ true → IsOwn line ⊎ ((command : Command) × IsLineOf command line)
+    found (Some inquiry) reads is = inl (inr (inr (inr (inl (inquiry, rw are (inquiry_says words inquiry reads))))))
+    found None reads is = absurd cc
+
+-- or as a command that is repeated
+repeat_taken : (words : List (List ℕ)) → is_some (repeat_in words) ≡ true → IsTaken words
+repeat_taken words is line are = found (repeat_in words) refl is
+  where
+    found : (read : Option (ℕ × ℕ)) → repeat_in words ≡ read → is_some read ≡ true → IsOwn line ⊎ ((command : Command) × IsLineOf command line)
+    found (Some (p, times)) reads is = inl (inr (inr (inr (inr (inl (p, times, repeat_says line p times (rw are reads)))))))
+    found None reads is = absurd cc
 
 own_taken : (words : List (List ℕ)) → IsOwn (join_with_byte 32 words) → IsTaken words
 own_taken words own line are = inl (rw (sym (join_with_byte-slice_split 32 line) ∙ ap (join_with_byte 32) are) own)
 
--- ---- numbers behind other words
-
--- a number is all that may stand there
-abbrev TakesNumber : Due → Type 0
-TakesNumber its = (word : List ℕ) → may_stand true its word ≡ (is_number word || false)
-
--- with as many numbers behind them the words are taken
-abbrev AreTakenWith : List (List ℕ) → List Due → Type 0
-AreTakenWith words [] = IsTaken words
-AreTakenWith words (its ∷ dues) = (n : ℕ) → IsInRange (number n) → AreTakenWith (words ++ decimal n ∷ []) dues
-
-numbers_taken : (first : List (List ℕ)) (dues : List Due) → AllByRecursion TakesNumber dues → AreTakenWith first dues
-    → (words : List (List ℕ)) → IsSound dues words → IsTaken (first ++ words)
-numbers_taken first [] all then words is = rw (over words is, append-nil) then
-numbers_taken first (its ∷ dues) all then [] is = absurd cc
-numbers_taken first (its ∷ dues) all then (word ∷ words) is =
-    let here = next its dues word words is in
-    let n = a_number word (sym (all.0 word) ∙ here.0) in
-    let more : IsTaken ((first ++ decimal n.0 ∷ []) ++ words) = numbers_taken (first ++ decimal n.0 ∷ []) dues all.1 (then n.0 n.1) words here.1 in
-    rw n.2 (rw append_assoc at more)
-
--- `P`, or `P` and another number
-process_taken : (first : List (List ℕ)) (its : Due) → TakesNumber its
-    → ((p : ℕ) (k : Option ℕ) → AllByRecursion IsInRange (numbers_of p k) → IsTaken (first ++ map part_text (numbers_of p k)))
-    → (words : List (List ℕ)) → IsSound (with_process its words) words → IsTaken (first ++ words)
-process_taken first its takes then [] is = absurd cc
-process_taken first its takes then (word ∷ []) is =
-    numbers_taken first (due.Process ∷ []) (search rules) (λ p range. then p None (range, tt)) (word ∷ []) is
-process_taken first its takes then (word ∷ other ∷ words) is =
-    numbers_taken first (due.Process ∷ its ∷ []) (λ w. refl, (takes, tt))
-    (λ p of_p k of_k. rw append_assoc (then p (Some k) (of_p, (of_k, tt)))) (word ∷ other ∷ words) is
-
 -- ---- line by line
 
--- `P K` or `lost S M P` behind a word
-event_taken : (first : List ℕ) → AreTakenWith (first ∷ []) (due.Process ∷ due.Step ∷ []) → AreTakenWith (first ∷ codes "lost" ∷ []) copy
-    → (words : List (List ℕ)) → IsSound (event words) words → IsTaken (first ∷ words)
-event_taken first of_step of_loss [] is = absurd cc
-event_taken first of_step of_loss (word ∷ words) is =
-    let here = next due.ProcessOrLost (cond (bytes_eq word (codes "lost")) copy (due.Step ∷ [])) word words is in
-    elim (cases_Bool (bytes_eq word (codes "lost"))) [
-      | inl h ↦
-          let others : IsSound copy words = subst (λ b. IsSound (cond b copy (due.Step ∷ [])) words) h here.1 in
-          rw ((bytes_eq-Decides word (codes "lost")).0 h) (numbers_taken (first ∷ codes "lost" ∷ []) copy (search rules) of_loss words others)
-      | inr h ↦
-          let p = a_number word (rw h at here.0) in
-          let others : IsSound (due.Step ∷ []) words = subst (λ b. IsSound (cond b copy (due.Step ∷ [])) words) h here.1 in
-          rw p.2 (numbers_taken (first ∷ decimal p.0 ∷ []) (due.Step ∷ []) (search rules) (of_step p.0 p.1) words others)
+-- one of some words is that of one of these values
+one_of : {X : Type 0} (P : X → Type 0) (f : X → List ℕ) (xs : List X) → AllByRecursion P xs
+    → (word : List ℕ) → list_any (bytes_eq word) (map f xs) ≡ true → (x : X) × P x × (word ≡ f x)
+one_of P f [] all word is = absurd cc
+one_of P f (x ∷ xs) all word is =
+    elim (cases_Bool (bytes_eq word (f x))) [
+      | inl h ↦ (x, all.0, (bytes_eq-Decides word (f x)).0 h)
+      | inr h ↦ one_of P f xs all.1 word (rw h at is)
     ]
 
--- `step P ACT`
-act_taken : (p : ℕ) → IsInRange (number p) → (word : List ℕ) → IsAmong word acts → (words : List (List ℕ))
-    → IsSound (behind_act word words) words → IsTaken (codes "step" ∷ decimal p ∷ word ∷ words)
-act_taken p range word (inl is) words sound =
-    let ends = over words (rw is at sound) in rw (is, ends) (command_taken (command.Step p act.Go) (tt, (range, (tt, tt))))
-act_taken p range word (inr (inl is)) words sound =
-    let ends = over words (rw is at sound) in rw (is, ends) (command_taken (command.Step p act.Learn) (tt, (range, (tt, tt))))
-act_taken p range word (inr (inr (inl is))) words sound =
-    let ends = over words (rw is at sound) in rw (is, ends) (command_taken (command.Step p act.Crash) (tt, (range, (tt, tt))))
-act_taken p range word (inr (inr (inr (inl is)))) [] sound = rw is (command_taken (command.Step p (act.Query None)) (tt, (range, (tt, tt))))
-act_taken p range word (inr (inr (inr (inl is)))) (leader ∷ words) sound =
-    rw is (numbers_taken (codes "step" ∷ decimal p ∷ codes "query" ∷ []) (due.Process ∷ []) (search rules)
-    (λ l its. command_taken (command.Step p (act.Query (Some l))) (tt, (range, (tt, (its, tt))))) (leader ∷ words) (rw is at sound))
-act_taken p range word (inr (inr (inr (inr (inl is))))) words sound =
-    rw is (numbers_taken (codes "step" ∷ decimal p ∷ codes "recv" ∷ []) (due.Process ∷ due.Message ∷ []) (search rules)
-    (λ s of_s m of_m. command_taken (command.Step p (act.Recv s m)) (tt, (range, (tt, (of_s, (of_m, tt)))))) words (rw is at sound))
-act_taken p range word (inr (inr (inr (inr (inr none))))) words sound = absurd none
+number_read : (word : List ℕ) → (is_number word || false) ≡ true → (n : ℕ) × (number_of word ≡ Some n)
+number_read word is = found (number_of word) refl (rw or-false at is)
+  where
+    found : (read : Option ℕ) → number_of word ≡ read → is_some read ≡ true → (n : ℕ) × (number_of word ≡ Some n)
+    found (Some n) reads is = (n, reads)
+    found None reads is = absurd cc
 
-step_taken : (words : List (List ℕ)) → IsSound (behind topic.Step words) words → IsTaken (codes "step" ∷ words)
-step_taken [] is = absurd cc
-step_taken (word ∷ []) is = absurd (let here = next due.Process (due.Act ∷ []) word [] is in let ends = here.1 in cc)
-step_taken (word ∷ act ∷ words) is =
+-- behind `step P`
+abbrev IsActRead : ℕ → List ℕ → Type 0
+IsActRead p act = (words : List (List ℕ)) → IsSound (behind_act act words) words → is_ok (read_by (after_process p) (act ∷ words)) ≡ true
+
+act_read : (p : ℕ) (act : List ℕ) → list_any (bytes_eq act) acts ≡ true → IsActRead p act
+act_read p act is =
+    let all : AllByRecursion (IsActRead p) acts = (
+      λ words sound. grind (arith, common_steps, gets),
+      (
+        λ words sound. grind (arith, common_steps, gets),
+        (
+          λ words sound. grind (arith, common_steps, gets),
+          (λ words sound. grind (arith, common_steps, gets), (λ words sound. grind (arith, common_steps, gets), tt)),
+        ),
+      ),
+    ) in
+    let its = one_of (IsActRead p) (λ word. word) acts all act is in subst (IsActRead p) (sym its.2) its.1
+
+step_read : (words : List (List ℕ)) → IsSound (behind topic.Step words) words → IsRead (codes "step" ∷ words)
+unfolding whole_line after_step
+step_read [] is = absurd cc
+step_read (word ∷ []) is = absurd (let here = next due.Process (due.Act ∷ []) word [] is in let ends = here.1 in cc)
+step_read (word ∷ act ∷ words) is =
     let here = next due.Process (due.Act ∷ behind_act act words) word (act ∷ words) is in
     let there = next due.Act (behind_act act words) act words here.1 in
-    let p = a_number word here.0 in
-    rw p.2 (act_taken p.0 p.1 act (among act acts (and_parts _ _ there.0).0) words there.1)
+    let p = number_read word here.0 in
+    rw p.1 (act_read p.0 act (and_parts _ _ there.0).0 words there.1)
 
--- a register of one digit
-abbrev register_word : Reg → List ℕ
-register_word (R p) = 114 ∷ (48 + p) ∷ []
-register_word Dec = codes "dec"
+write_read : (words : List (List ℕ)) → IsSound (due.Register ∷ []) words → IsRead (codes "break" ∷ codes "write" ∷ words)
+unfolding whole_line after_break register_named
+write_read [] is = absurd cc
+write_read (word ∷ words) is =
+    let here = next due.Register [] word words is in
+    let name = one_of (λ (name : List ℕ). IsRead (codes "break" ∷ codes "write" ∷ name ∷ [])) (λ name. name) registers (search rules) word
+    (and_parts _ _ here.0).0 in
+    rw (over words here.1, name.2) name.1
 
-register_is : (x : Reg) → IsInRange (register x) → register_word x ≡ part_text (register x)
-register_is (R p) range = rw (decimal_digit p (omega arith)) refl
-register_is Dec range = refl
+stop_read : (stop : List ℕ) (words : List (List ℕ)) → bytes_eq stop (codes "write") ≡ false
+    → IsSound (behind topic.Break (stop ∷ words)) (stop ∷ words) → IsRead (codes "break" ∷ stop ∷ words)
+unfolding whole_line after_break
+stop_read stop words other is = grind (arith, common_steps, gets)
 
--- `break STOP`
-stop_taken : (word : List ℕ) → IsAmong word (second_words (codes "break")) → (words : List (List ℕ))
-    → IsSound (behind_stop word) words → IsTaken (codes "break" ∷ word ∷ words)
-stop_taken word (inl is) words sound =
-    rw is (numbers_taken (codes "break" ∷ codes "decide" ∷ []) (due.Process ∷ []) (search rules)
-    (λ p range. command_taken (command.Break (stop.Decide p)) (tt, (tt, (range, tt)))) words (rw is at sound))
-stop_taken word (inr (inl is)) words sound =
-    rw is (numbers_taken (codes "break" ∷ codes "round" ∷ []) (due.Process ∷ due.Round ∷ []) (search rules)
-    (λ p of_p r of_r. command_taken (command.Break (stop.Round p r)) (tt, (tt, (of_p, (of_r, tt))))) words (rw is at sound))
-stop_taken word (inr (inr (inl is))) words sound =
-    rw is (numbers_taken (codes "break" ∷ codes "recv" ∷ []) (due.Process ∷ []) (search rules)
-    (λ p range. command_taken (command.Break (stop.Recv p)) (tt, (tt, (range, tt)))) words (rw is at sound))
-stop_taken word (inr (inr (inr (inl is)))) [] sound = absurd (let ends = rw is at sound in cc)
-stop_taken word (inr (inr (inr (inl is)))) (name ∷ words) sound =
-    let here = next due.Register [] name words (rw is at sound) in
-    let all : List Reg = R 1 ∷ R 2 ∷ R 3 ∷ R 4 ∷ R 5 ∷ R 6 ∷ R 7 ∷ R 8 ∷ R 9 ∷ Dec ∷ [] in
-    let x = one_of (λ x. IsInRange (register x)) register_word all (search rules) name (and_parts _ _ here.0).0 in
-    rw (is, over words here.1, x.2 ∙ register_is x.0 x.1) (command_taken (command.Break (stop.Write x.0)) (tt, (tt, (x.1, tt))))
-stop_taken word (inr (inr (inr (inr none)))) words sound = absurd none
+break_read : (words : List (List ℕ)) → IsSound (behind topic.Break words) words → IsRead (codes "break" ∷ words)
+break_read [] is = absurd cc
+break_read (stop ∷ words) is =
+    elim (cases_Bool (bytes_eq stop (codes "write"))) [
+      | inl h ↦ let same = (bytes_eq-Decides stop (codes "write")).0 h in rw same (write_read words (rw same at is))
+      | inr h ↦ stop_read stop words h is
+    ]
 
-break_taken : (words : List (List ℕ)) → IsSound (behind topic.Break words) words → IsTaken (codes "break" ∷ words)
-break_taken [] is = absurd cc
-break_taken (stop ∷ words) is =
-    let here = next due.Stop (behind_stop stop) stop words is in
-    stop_taken stop (among stop (second_words (codes "break")) (and_parts _ _ here.0).0) words here.1
+-- `auto P`, or `auto P N`
+auto_read : (words : List (List ℕ)) → IsSound (with_process due.Count words) words
+    → IsRead (codes "auto" ∷ words) ⊎ (is_some (repeat_in (codes "auto" ∷ words)) ≡ true)
+unfolding whole_line repeat_in step_in
+auto_read [] is = absurd cc
+auto_read (p ∷ []) is = inl (grind (arith, common_steps, gets))
+auto_read (p ∷ n ∷ words) is = inr (grind (arith, common_steps, gets))
 
--- `show P` or `show VIEW`
-view_taken : (word : List ℕ) → IsAmong word (second_words (codes "show")) → IsTaken (codes "show" ∷ word ∷ [])
-view_taken word (inl is) = rw is (command_taken (command.Show view.Regs) (tt, (tt, tt)))
-view_taken word (inr (inl is)) = rw is (command_taken (command.Show view.Mail) (tt, (tt, tt)))
-view_taken word (inr (inr (inl is))) = rw is (command_taken (command.Show view.History) (tt, (tt, tt)))
-view_taken word (inr (inr (inr none))) = absurd none
-
-show_taken : (words : List (List ℕ)) → IsSound (due.ProcessOrView ∷ []) words → IsTaken (codes "show" ∷ words)
-show_taken [] is = absurd cc
-show_taken (word ∷ words) is =
-    let here = next due.ProcessOrView [] word words is in
-    rw (over words here.1) (elim (or_cases (is_number word) _ here.0) [
-      | inl is ↦ let p = a_number word (or_left _ _ is) in rw p.2 (command_taken (command.Show (view.Proc p.0)) (tt, (p.1, tt)))
-      | inr is ↦ view_taken word (among word (second_words (codes "show")) (and_parts _ _ is).0)
-    ])
+auto_taken : (words : List (List ℕ)) → IsSound (with_process due.Count words) words → IsTaken (codes "auto" ∷ words)
+auto_taken words is =
+    elim (auto_read words is) [
+      | inl once ↦ read_taken _ once
+      | inr often ↦ repeat_taken _ often
+    ]
 
 -- `seat S`
 seat_taken : (words : List (List ℕ)) → IsSound (due.Seat ∷ []) words → IsTaken (codes "seat" ∷ words)
@@ -247,6 +178,10 @@ seat_taken (word ∷ words) is =
     rw (over words here.1, seat.2 ∙ sym (decimal_digit seat.0 (omega (arith, seat.1))))
     (own_taken (codes "seat" ∷ decimal seat.0 ∷ []) (inr (inr (inl (seat.0, seat.1, refl)))))
 
+-- a word that may begin a line
+a_topic : (word : List ℕ) → list_any (bytes_eq word) first_words ≡ true → (t : Topic) × Unit {0} × (word ≡ topic_word t)
+a_topic word is = one_of (λ t. Unit {0}) topic_word topics (search rules) word is
+
 -- `help`, or `help WORD`
 help_taken : (words : List (List ℕ)) → IsSound (behind topic.Help words) words → IsTaken (codes "help" ∷ words)
 help_taken [] is = own_taken (codes "help" ∷ []) (inl (None, refl))
@@ -255,56 +190,30 @@ help_taken (word ∷ words) is =
     let t = a_topic word (and_parts _ _ here.0).0 in
     rw (over words here.1, t.2) (own_taken (codes "help" ∷ topic_word t.0 ∷ []) (inl (Some t.0, refl)))
 
--- `draw FILE [P [K]]`
-draw_taken : (words : List (List ℕ)) → IsSound (with_file words) words → IsTaken (codes "draw" ∷ words)
-draw_taken [] is = absurd cc
-draw_taken (name ∷ []) is =
-    let named = rw or-false at (next due.File [] name [] is).0 in inquiry_taken (Draw name None) (name ∷ []) (named, [], refl, refl)
-draw_taken (name ∷ word ∷ words) is =
-    let here = next due.File (with_process due.Step (word ∷ words)) name (word ∷ words) is in
-    let named = rw or-false at here.0 in
-    process_taken (codes "draw" ∷ name ∷ []) due.Step (λ w. refl)
-    (λ p k range. inquiry_taken (Draw name (Some (step_with p k))) _ (named, _, refl, record { are = refl; in_range = range })) (word ∷ words) here.1
-
--- `auto P`, or `auto P N`
-auto_taken : (p : ℕ) (times : Option ℕ) → AllByRecursion IsInRange (numbers_of p times) → IsTaken (codes "auto" ∷ map part_text (numbers_of p times))
-auto_taken p None range line are = command_taken (command.Auto p) (tt, range) line are
-auto_taken p (Some times) range line are = inl (inr (inr (inr (inr (inl (p, times, (are, (tt, range))))))))
-
 by_topic : (first : Topic) (words : List (List ℕ)) → IsSound (behind first words) words → IsTaken (topic_word first ∷ words)
-by_topic topic.Step words is = step_taken words is
-by_topic topic.Auto words is = process_taken (codes "auto" ∷ []) due.Count (λ w. refl) auto_taken words is
-by_topic topic.Lose words is =
-    numbers_taken (codes "lose" ∷ []) copy (search rules) (λ s a m b p c. command_taken (command.Lose s m p) (tt, (a, (b, (c, tt))))) words is
-by_topic topic.Undo words is =
-    event_taken (codes "undo") (λ p a k b. command_taken (command.Undo p k) (tt, (a, (b, tt))))
-    (λ s a m b p c. command_taken (command.UndoLost s m p) (tt, (tt, (a, (b, (c, tt)))))) words is
-by_topic topic.Redo words is = rw (over words is) (command_taken command.Redo (tt, tt))
-by_topic topic.Forget words is = rw (over words is) (command_taken command.Forget (tt, tt))
-by_topic topic.Rollback words is =
-    event_taken (codes "rollback") (λ p a k b. command_taken (command.Rollback p k) (tt, (a, (b, tt))))
-    (λ s a m b p c. command_taken (command.RollbackLost s m p) (tt, (tt, (a, (b, (c, tt)))))) words is
-by_topic topic.Why words is =
-    event_taken (codes "why") (λ p a k b. command_taken (command.Why p k) (tt, (a, (b, tt))))
-    (λ s a m b p c. command_taken (command.WhyLost s m p) (tt, (tt, (a, (b, (c, tt)))))) words is
-by_topic topic.Break words is = break_taken words is
-by_topic topic.Unbreak words is =
-    numbers_taken (codes "unbreak" ∷ []) (due.Breakpoint ∷ []) (search rules) (λ b range. command_taken (command.Unbreak b) (tt, (range, tt))) words is
-by_topic topic.Resume words is = rw (over words is) (command_taken command.Resume (tt, tt))
-by_topic topic.Show words is = show_taken words is
-by_topic topic.Decisions words is = rw (over words is) (command_taken command.Decisions (tt, tt))
-by_topic topic.Explain words is =
-    process_taken (codes "explain" ∷ []) due.Step (λ w. refl)
-    (λ p k range. inquiry_taken (Explain (step_with p k)) _ (record { are = refl; in_range = range })) words is
-by_topic topic.Trail words is =
-    process_taken (codes "trail" ∷ []) due.Step (λ w. refl)
-    (λ p k range. inquiry_taken (Trail (step_with p k)) _ (record { are = refl; in_range = range })) words is
-by_topic topic.Draw words is = draw_taken words is
+unfolding whole_line after_verb after_show inquiry_in drawing_in any_step_in step_in
+by_topic topic.Step words is = read_taken _ (step_read words is)
+by_topic topic.Auto words is = auto_taken words is
+by_topic topic.Lose words is = read_taken (codes "lose" ∷ words) (grind (arith, common_steps, gets))
+by_topic topic.Undo words is = read_taken (codes "undo" ∷ words) (grind (arith, common_steps, gets))
+by_topic topic.Rollback words is = read_taken (codes "rollback" ∷ words) (grind (arith, common_steps, gets))
+by_topic topic.Why words is = read_taken (codes "why" ∷ words) (grind (arith, common_steps, gets))
+by_topic topic.Break words is = read_taken _ (break_read words is)
+by_topic topic.Unbreak words is = read_taken (codes "unbreak" ∷ words) (grind (arith, common_steps, gets))
+by_topic topic.Show words is = read_taken (codes "show" ∷ words) (grind (arith, common_steps, gets))
+by_topic topic.Explain words is = inquiry_taken (codes "explain" ∷ words) (grind (arith, common_steps, gets))
+by_topic topic.Trail words is = inquiry_taken (codes "trail" ∷ words) (grind (arith, common_steps, gets))
+by_topic topic.Draw words is = inquiry_taken (codes "draw" ∷ words) (grind (arith, common_steps, gets))
 by_topic topic.Watch words is = rw (over words is) (own_taken (codes "watch" ∷ []) (inr (inr (inr (inr (inr (true, refl)))))))
 by_topic topic.Unwatch words is = rw (over words is) (own_taken (codes "unwatch" ∷ []) (inr (inr (inr (inr (inr (false, refl)))))))
 by_topic topic.Help words is = help_taken words is
 by_topic topic.Quit words is = rw (over words is) (own_taken (codes "quit" ∷ []) (inr (inl refl)))
 by_topic topic.Seat words is = seat_taken words is
+-- each other word is a whole line
+by_topic topic.Redo words is = rw (over words is) (read_taken (codes "redo" ∷ []) refl)
+by_topic topic.Forget words is = rw (over words is) (read_taken (codes "forget" ∷ []) refl)
+by_topic topic.Resume words is = rw (over words is) (read_taken (codes "resume" ∷ []) refl)
+by_topic topic.Decisions words is = rw (over words is) (read_taken (codes "decisions" ∷ []) refl)
 
 all_taken : (words : List (List ℕ)) → IsSound (dues_of words) words → IsTaken words
 all_taken [] is = absurd cc

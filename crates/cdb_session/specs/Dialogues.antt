@@ -1,5 +1,5 @@
 -- The responses of a session, along its lines.
-use Rattle.std.specs.Prelude.{ℕ, ◌==◌, Bool, true, false, List, [], ◌∷◌, ◌++◌, codes, map}
+use Rattle.std.specs.Prelude.{ℕ, ◌+◌, ◌==◌, Bool, true, false, List, [], ◌∷◌, ◌++◌, codes, map}
 use Rattle.std.specs.Prelude.{decimal, drop, if◌then◌else◌, Option, None, Some, Ok, Err}
 use Rattle.std.specs.List.{before_first, flat_map}
 use Rattle.std.specs.Str.{bytes_eq}
@@ -22,7 +22,9 @@ use Rattle.cdb_commands.specs.declared.help.TheConstants.{COMMANDS}
 use Rattle.cdb_session.specs.declared.help.TheConstants.{BESIDES, SEATS, OTHERS}
 use Rattle.cdb_session.specs.declared.request.Request.{Request}
 use Rattle.cdb_session.specs.declared.topic.Topic.{Topic}
-use Rattle.cdb_session.specs.declared.request.Request.TheVariants.{Ask, Quit}
+use Rattle.cdb_session.specs.declared.request.Request.TheVariants.{Ask, Watch, Seat, Help, Quit, Fault, TooLong}
+use Rattle.cdb_session.specs.Requests.{seat_line}
+use Rattle.cdb_session.specs.declared.topic.Topic.TheVariants as topic
 
 -- ---- the texts
 
@@ -100,6 +102,19 @@ or_word_fault line topic (byte ∷ text) = byte ∷ text
 abbrev pub help_response : ℕ → Bool → Option Topic → List ℕ
 help_response line seats None = help_text seats
 help_response line seats (Some topic) = or_word_fault line topic (lines_about topic (help_text seats))
+
+-- The response to a line that asks for no command and nothing of the run, after this many lines. Where no line chooses
+-- a seat, one that does has a wrong word.
+abbrev pub own_response : Bool → ℕ → Request → List ℕ
+own_response chooses lines (Watch begins) = watch_text begins
+own_response chooses lines (Seat seat) =
+    if chooses
+    then (seat_line seat ++ codes "\n")
+    else faulty_line_text (lines + 1) Word (stands Command (topic_word topic.Seat))
+own_response chooses lines (Help about) = help_response (lines + 1) chooses about
+own_response chooses lines (Fault faulty) = fault_response (lines + 1) chooses faulty
+own_response chooses lines TooLong = long_line_text (lines + 1)
+own_response chooses lines other = []
 
 -- ---- all lines
 

@@ -1,13 +1,14 @@
 -- What is due in a line, and what is said where something else stands there.
-use Rattle.std.specs.Prelude.{ℕ, ◌==◌, ◌||◌, ◌&&◌, Bool, false, not, nat_le, List, [], ◌∷◌, ◌++◌}
-use Rattle.std.specs.Prelude.{length, take, map, codes, slice_index, if◌then◌else◌, Option, None, Some}
+use Rattle.std.specs.Prelude.{ℕ, ◌||◌, ◌&&◌, Bool, false, not, List, [], ◌∷◌, ◌++◌, take, map, codes, if◌then◌else◌}
+use Rattle.std.specs.Prelude.{Option, None, Some, is_some}
 use Rattle.std.specs.List.{list_any}
 use Rattle.std.specs.Char.{is_ascii_graphic}
 use Rattle.std.specs.Str.{bytes_eq}
 use Rattle.cdb_text.specs.Grammar.{words_of}
+use Rattle.cdb_text.specs.Numbers.{number_of}
 use Rattle.cdb_session.specs.Inquiries.{is_file_name}
 use Rattle.cdb_session.specs.Topics.{topic_of}
-use Rattle.cdb_session.specs.Typed.{acts, first_words, is_digits, second_words}
+use Rattle.cdb_session.specs.Typed.{acts, first_words, second_words}
 use Rattle.cdb_session.specs.declared.due.Due.{Due}
 use Rattle.cdb_session.specs.declared.due.Due.TheVariants.{Command, Process, ProcessOrLost, ProcessOrView}
 use Rattle.cdb_session.specs.declared.due.Due.TheVariants.{Act, Stop, Message, Step, Round, Breakpoint}
@@ -46,42 +47,28 @@ seats =
 -- the words that may stand there, besides numbers and names
 abbrev pub words_at : Due → List (List ℕ)
 words_at Command = first_words
-words_at Process = []
 words_at ProcessOrLost = codes "lost" ∷ []
 words_at ProcessOrView = second_words (codes "show")
 words_at Act = acts
 words_at Stop = second_words (codes "break")
-words_at Message = []
-words_at Step = []
-words_at Round = []
-words_at Breakpoint = []
 words_at Register = registers
 words_at Seat = seats
-words_at Count = []
-words_at File = []
-words_at Nothing = []
+words_at other = []
 
--- one to six digits, the first not 0
+-- a number, as it is read in the line of a command
 abbrev pub is_number : List ℕ → Bool
-is_number word = is_digits word && (nat_le (length word) 6 && not (slice_index word 0 == 48))
+is_number word = is_some (number_of word)
 
 -- the word is a number where one may stand, or the name of a file
 abbrev pub names : Due → List ℕ → Bool
 names Command word = false
-names Process word = is_number word
-names ProcessOrLost word = is_number word
-names ProcessOrView word = is_number word
 names Act word = false
 names Stop word = false
-names Message word = is_number word
-names Step word = is_number word
-names Round word = is_number word
-names Breakpoint word = is_number word
 names Register word = false
 names Seat word = false
-names Count word = is_number word
 names File word = is_file_name word
 names Nothing word = false
+names other word = is_number word
 
 -- the word may stand there; `seat` only where a line may choose one
 abbrev pub may_stand : Bool → Due → List ℕ → Bool

@@ -37,19 +37,13 @@ abbrev pub is_file_name : List ℕ → Bool
 is_file_name word = is_word word && (is_one_piece word && not (has_other_meaning word))
 
 -- `explain P [K]`, `trail P [K]`, or `draw FILE [P [K]]`
-abbrev pub inquiry_word : Inquiry → List ℕ
-inquiry_word (Explain step) = codes "explain"
-inquiry_word (Trail step) = codes "trail"
-inquiry_word (Draw name step) = codes "draw"
-
--- the words behind that one
 abbrev pub AreInquiryWords : Inquiry → List (List ℕ) → Type 0
-AreInquiryWords (Explain step) words = AreStepWords step words
-AreInquiryWords (Trail step) words = AreStepWords step words
-AreInquiryWords (Draw name step) words =
-    (is_file_name name ≡ true) × (others : List (List ℕ)) × (words ≡ name ∷ others) × AreAnyStepWords step others
+AreInquiryWords (Explain step) (word ∷ others) = (word ≡ codes "explain") × AreStepWords step others
+AreInquiryWords (Trail step) (word ∷ others) = (word ≡ codes "trail") × AreStepWords step others
+AreInquiryWords (Draw name step) (word ∷ file ∷ others) =
+    (word ≡ codes "draw") × (file ≡ name) × (is_file_name name ≡ true) × AreAnyStepWords step others
+AreInquiryWords inquiry words = ⊥
 
 -- the line asks that
 abbrev pub IsInquiryLine : Inquiry → List ℕ → Type 0
-IsInquiryLine inquiry line =
-    (others : List (List ℕ)) × (words_of line ≡ inquiry_word inquiry ∷ others) × AreInquiryWords inquiry others
+IsInquiryLine inquiry line = AreInquiryWords inquiry (words_of line)

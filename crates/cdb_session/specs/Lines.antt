@@ -1,7 +1,6 @@
 -- What one line does.
-use Rattle.std.specs.Prelude.{◌≡◌, ◌⊎◌, ℕ, ◌<◌, ◌≤◌, Bool, true, List, [], ◌∷◌, ◌++◌, length, if◌then◌else◌}
-use Rattle.std.specs.Prelude.{Option, None, Some, Result, Ok, Err, Vec}
-use Rattle.std.specs.Global.{Global}
+use Rattle.std.specs.Prelude.{◌≡◌, ◌⊎◌, ℕ, ◌<◌, ◌≤◌, Bool, true, List, [], ◌∷◌, ◌++◌, length, if◌then◌else◌, replicate}
+use Rattle.std.specs.Prelude.{Option, None, Some, Result, Ok, Err, IfOk}
 use Rattle.cdb_commands.specs.ReplyView.{ReplyView, is_refused}
 use Rattle.cdb_control.specs.declared.control.Entry.{Entry}
 use Rattle.cdb_rules.specs.RunView.{RunView}
@@ -10,14 +9,12 @@ use Rattle.cdb_session.specs.Exchanges.{Answer, Effect, Exchange, given_at}
 use Rattle.cdb_session.specs.declared.inquiry.Inquiry.{Inquiry}
 use Rattle.cdb_session.specs.declared.request.Request.{Request}
 use Rattle.cdb_session.specs.declared.request.Request.TheVariants.{Call, Ask}
-use Rattle.cdb_session.specs.Styles.{StyleView, Part, IsFull, IsCalled, AreCalled, MakesNone}
-use Rattle.cdb_session.specs.Dialogues.{full_text}
+use Rattle.cdb_session.specs.Styles.{StyleView, Part, IsFull, AreCalled, MakesNone}
 use Rattle.cdb_session.specs.Moves.{Output, file, says}
 use Rattle.cdb_session.specs.News.{HasNews, watched_next}
 use Rattle.cdb_session.specs.Parts.{IsGiven, entries_of}
 use Rattle.cdb_session.specs.Repeats.{times_given}
-use Rattle.cdb_text.specs.Texts.{text_of}
-use Rattle.cdb_session.specs.Replies.{Along, responded, response, shown}
+use Rattle.cdb_session.specs.Replies.{Along, replies_text, responded, shown}
 use Rattle.cdb_session.specs.declared.session.Session.{Session}
 use Rattle.cdb_session.specs.declared.shown.NewFile.{NewFile}
 use Rattle.cdb_session.specs.declared.shown.Shown.{Shown}
@@ -59,13 +56,17 @@ pub record HasBegun (seat : ℕ) (old : Part) (request : Request) (new : Part) :
   pub calls : HasGot seat old request got new
   pub due : IsToBeGiven request got
 
--- The command was given once more, and the text of the reply added, or that the journal is full. Where this is true it
--- was the last time.
+-- the reply to a command that was given once is the last: it is a refusal, or there is none since the journal is full
+abbrev pub is_last : List ReplyView → Bool
+is_last [] = true
+is_last (reply ∷ replies) = is_refused reply
+
+-- The command was given once more, and got a reply, or none where memory is out or the journal is full. Where this is
+-- true it was the last time.
 abbrev pub GivesOnce : {E : Type 0} → Result Bool E → Part → Entry → List ℕ → List ℕ → Part → Type 0
-GivesOnce (Ok last) old one before text new =
-    ((reply : ReplyView) × IsCalled old one reply new × (last ≡ is_refused reply) × (text ≡ before ++ text_of reply))
-    ⊎ (MakesNone old new × IsFull new × (last ≡ true) × (text ≡ before ++ full_text))
-GivesOnce (Err fault) old one before text new = MakesNone old new ⊎ ((reply : ReplyView) × IsCalled old one reply new)
+GivesOnce result old one before text new =
+    (got : List ReplyView) × AreCalled old (replicate (length got) one) got new × (length got ≤ 1)
+    × IfOk result (λ last. (got ≡ [] → IsFull new) × (last ≡ is_last got) × (text ≡ before ++ replies_text 1 got))
 
 -- what is put out, where its file was written and where it could not be
 abbrev pub outputs_with : Option NewFile → List ℕ → List ℕ → Bool → List Output
@@ -76,6 +77,10 @@ outputs_with (Some its) text failed saved =
 -- and with these news before what is said
 abbrev pub outputs_of : List ℕ → Shown → Bool → List Output
 outputs_of news shown saved = outputs_with shown.file (news ++ shown.text.items) (news ++ shown.failed.items) saved
+
+-- a text is shown, and nothing is saved
+abbrev pub IsText : Shown → List ℕ → Type 0
+IsText its text = (news : List ℕ) (saved : Bool) → outputs_of news its saved ≡ says (news ++ text)
 
 module _ (Answers : RunView → Inquiry → Answer → Type 0) where
   -- where the line asks something of the run, this answers it
@@ -93,16 +98,8 @@ module _ (Answers : RunView → Inquiry → Answer → Type 0) where
     pub answer : IsAnsweredAt exchange new
 
   module _ (style : StyleView) where
-    -- The response to a line that asks for this, as a text, whatever else came of the line. Out of memory it may have
-    -- been begun.
-    abbrev pub Responds : {E : Type 0} → Effect → Result (Vec ℕ Global) E → SessionView → Request → SessionView → Type 0
-    Responds effect (Ok text) old request new =
-        (given : ℕ) × (answer : Answer) × (got : List ReplyView)
-        × (let exchange : Exchange = (request, record effect { given = given; answer = answer }) in
-        HasDone old.seat old.part exchange got new.part × (text.items ≡ response style (at_line old got) exchange))
-    Responds effect (Err fault) old request new = HasBegun old.seat old.part request new.part
-
-    -- and what is put out with it, without the prompt
+    -- what is put out at a line that asks for this, without the prompt, whatever else came of the line; out of memory
+    -- it may have been begun
     abbrev pub PutsOut : {E : Type 0} → Effect → Result Shown E → SessionView → Request → SessionView → Type 0
     PutsOut effect (Ok its) old request new =
         (given : ℕ) × (answer : Answer) × (got : List ReplyView)

@@ -30,24 +30,15 @@ pub data Move : Type 0 where
 
 abbrev pub given_by : Move → List ℕ
 given_by (Read bytes) = bytes
-given_by ReadFailed = []
-given_by (Wrote bytes) = []
-given_by WriteFailed = []
-given_by (Saves saving) = []
+given_by other = []
 
 abbrev pub said_by : Move → List ℕ
-said_by (Read bytes) = []
-said_by ReadFailed = []
 said_by (Wrote bytes) = bytes
-said_by WriteFailed = []
-said_by (Saves saving) = []
+said_by other = []
 
 abbrev pub saved_by : Move → List Saving
-saved_by (Read bytes) = []
-saved_by ReadFailed = []
-saved_by (Wrote bytes) = []
-saved_by WriteFailed = []
 saved_by (Saves saving) = saving ∷ []
+saved_by other = []
 
 abbrev pub written_by : Move → List Output
 written_by move = map file (saved_by move) ++ says (said_by move)
@@ -71,9 +62,7 @@ written_in moves = flat_map written_by moves
 abbrev pub AsksForInput : Move → Type 0
 AsksForInput (Read bytes) = Unit {0}
 AsksForInput ReadFailed = Unit {0}
-AsksForInput (Wrote bytes) = ⊥
-AsksForInput WriteFailed = ⊥
-AsksForInput (Saves saving) = ⊥
+AsksForInput other = ⊥
 
 -- none of the moves asks for input
 abbrev pub AreWrites : List Move → Type 0
@@ -81,11 +70,9 @@ AreWrites moves = AllByRecursion (λ move. ¬ AsksForInput move) moves
 
 -- the writing failed: there was an error, or nothing was taken
 abbrev pub FailsToWrite : Move → Type 0
-FailsToWrite (Read bytes) = ⊥
-FailsToWrite ReadFailed = ⊥
 FailsToWrite (Wrote bytes) = bytes ≡ []
 FailsToWrite WriteFailed = Unit {0}
-FailsToWrite (Saves saving) = ⊥
+FailsToWrite other = ⊥
 
 -- the last of the moves
 abbrev pub EndsWith : (Move → Type 0) → List Move → Type 0
@@ -126,19 +113,14 @@ pub record Known : Type 0 where
 
 -- the move is a read that failed
 abbrev pub is_failed_read : Move → Bool
-is_failed_read (Read bytes) = false
 is_failed_read ReadFailed = true
-is_failed_read (Wrote bytes) = false
-is_failed_read WriteFailed = false
-is_failed_read (Saves saving) = false
+is_failed_read other = false
 
 -- the move is a write that failed, with an error or by taking nothing
 abbrev pub is_failed_write : Move → Bool
-is_failed_write (Read bytes) = false
-is_failed_write ReadFailed = false
 is_failed_write (Wrote bytes) = length bytes == 0
 is_failed_write WriteFailed = true
-is_failed_write (Saves saving) = false
+is_failed_write other = false
 
 -- a count of such moves, once these were made too
 abbrev pub count_on : (Move → Bool) → ℕ → List Move → ℕ

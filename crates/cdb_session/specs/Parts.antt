@@ -6,7 +6,7 @@ use Rattle.cdb_control.specs.declared.control.Entry.{Entry}
 use Rattle.cdb_session.specs.Exchanges.{Exchange}
 use Rattle.cdb_session.specs.Repeats.{times_given}
 use Rattle.cdb_session.specs.declared.request.Request.{Request}
-use Rattle.cdb_session.specs.declared.request.Request.TheVariants.{Call, Ask, Watch, Seat, Help, Quit, Fault, TooLong}
+use Rattle.cdb_session.specs.declared.request.Request.TheVariants.{Call, Seat}
 use Rattle.cdb_session.specs.Styles.{StyleView, Part, IsFull}
 
 -- These first entries of the journal are those before the session, and among the others just the first count of its
@@ -24,27 +24,15 @@ IsGiven other replies = Unit {0}
 -- the entries of a line of this seat whose command was given so often
 abbrev pub entries_of : ℕ → Request → ℕ → List Entry
 entries_of seat (Call command times) count = replicate count (entry seat command)
-entries_of seat (Ask inquiry) count = []
-entries_of seat (Watch begins) count = []
-entries_of seat (Seat chosen) count = []
-entries_of seat (Help about) count = []
-entries_of seat Quit count = []
-entries_of seat (Fault fault) count = []
-entries_of seat TooLong count = []
+entries_of seat other count = []
 
 abbrev pub asked_of : ℕ → Exchange → List Entry
 asked_of seat exchange = entries_of seat exchange.0 exchange.1.given
 
 -- the seat of the next line
 abbrev pub seat_next : Bool → ℕ → Request → ℕ
-seat_next chooses seat (Call command times) = seat
-seat_next chooses seat (Ask inquiry) = seat
-seat_next chooses seat (Watch begins) = seat
 seat_next chooses seat (Seat chosen) = if chooses then chosen else seat
-seat_next chooses seat (Help about) = seat
-seat_next chooses seat Quit = seat
-seat_next chooses seat (Fault fault) = seat
-seat_next chooses seat TooLong = seat
+seat_next chooses seat other = seat
 
 -- the seat after these lines
 abbrev pub seat_behind : Bool → ℕ → List Exchange → ℕ

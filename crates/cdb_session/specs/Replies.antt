@@ -1,22 +1,15 @@
 -- The responses of a session by the replies to its commands, whatever else its journal has.
-use Rattle.std.specs.Prelude.{ℕ, zero, suc, ◌+◌, List, [], ◌∷◌, ◌++◌, codes, drop, fold, if◌then◌else◌, Option, None}
+use Rattle.std.specs.Prelude.{ℕ, zero, suc, ◌+◌, List, [], ◌∷◌, ◌++◌, drop, fold, Option, None}
 use Rattle.cdb_commands.specs.ReplyView.{ReplyView}
 use Rattle.cdb_text.specs.Texts.{text_of}
-use Rattle.cdb_text.specs.declared.fault.LineFault.TheVariants.{Word}
-use Rattle.cdb_session.specs.Dialogues.{full_text, faulty_line_text, fault_response, long_line_text, watch_text}
-use Rattle.cdb_session.specs.Dialogues.{answer_text, help_response, responded_by, shown_by, shown_from_by, dialogue_by}
-use Rattle.cdb_session.specs.Due.{stands}
+use Rattle.cdb_session.specs.Dialogues.{full_text, answer_text, own_response, responded_by, shown_by, shown_from_by}
+use Rattle.cdb_session.specs.Dialogues.{dialogue_by}
 use Rattle.cdb_session.specs.Exchanges.{Exchange, given_at}
 use Rattle.cdb_session.specs.Moves.{Output}
 use Rattle.cdb_session.specs.News.{watched_next}
 use Rattle.cdb_session.specs.Parts.{seat_next}
-use Rattle.cdb_session.specs.Requests.{seat_line}
 use Rattle.cdb_session.specs.Styles.{StyleView}
-use Rattle.cdb_session.specs.Topics.{topic_word}
-use Rattle.cdb_session.specs.declared.due.Due.TheVariants.{Command}
-use Rattle.cdb_session.specs.declared.request.Request.{Request}
-use Rattle.cdb_session.specs.declared.request.Request.TheVariants.{Call, Ask, Watch, Seat, Help, Quit, Fault, TooLong}
-use Rattle.cdb_session.specs.declared.topic.Topic.TheVariants as topic
+use Rattle.cdb_session.specs.declared.request.Request.TheVariants.{Call, Ask}
 
 -- A session between two lines: its seat, the replies to the commands that follow, how many lines there were, and from
 -- which entry on those of others are still to be shown, if somebody watches.
@@ -46,30 +39,11 @@ module _ (style : StyleView) where
   abbrev pub begun_along : List ReplyView → Along
   begun_along replies = record { seat = style.first; replies = replies; lines = 0; watched = None }
 
-  -- the response to a line that asks for no command and nothing of the run, after this many lines
-  abbrev pub own_response : ℕ → Request → List ℕ
-  own_response lines (Call command times) = []
-  own_response lines (Ask inquiry) = []
-  own_response lines (Watch begins) = watch_text begins
-  own_response lines (Seat seat) =
-      if style.chooses
-      then (seat_line seat ++ codes "\n")
-      else faulty_line_text (lines + 1) Word (stands Command (topic_word topic.Seat))
-  own_response lines (Help about) = help_response (lines + 1) style.chooses about
-  own_response lines Quit = []
-  own_response lines (Fault faulty) = fault_response (lines + 1) style.chooses faulty
-  own_response lines TooLong = long_line_text (lines + 1)
-
-  -- The response at a line. Where no line chooses a seat, one that does has a wrong word.
+  -- the response at a line
   abbrev pub response : Along → Exchange → List ℕ
   response s (Call command times, effect) = replies_text effect.given s.replies
   response s (Ask inquiry, effect) = answer_text (s.lines + 1) inquiry effect.answer effect.saved
-  response s (Watch begins, effect) = own_response s.lines (Watch begins)
-  response s (Seat seat, effect) = own_response s.lines (Seat seat)
-  response s (Help about, effect) = own_response s.lines (Help about)
-  response s (Quit, effect) = []
-  response s (Fault fault, effect) = own_response s.lines (Fault fault)
-  response s (TooLong, effect) = own_response s.lines TooLong
+  response s exchange = own_response style.chooses s.lines exchange.0
 
   -- the news come before it
   abbrev pub news_and_response : Along → Exchange → List ℕ

@@ -1,7 +1,7 @@
 -- The table of a session whose lines choose one of nine seats: the response to each line, by the control that the lines
 -- before have led to.
 use Rattle.std.specs.Prelude.{◌≡◌, ℕ, zero, suc, ◌+◌, ◌==◌, ◌||◌, Bool, true, List}
-use Rattle.std.specs.Prelude.{[], ◌∷◌, ◌++◌, length, fold, codes, if◌then◌else◌}
+use Rattle.std.specs.Prelude.{[], ◌∷◌, ◌++◌, length, fold, if◌then◌else◌}
 use Rattle.cdb_base.specs.Limits.{MAX_ENTRIES, MAX_SEATS}
 use Rattle.cdb_commands.specs.ReplyView.{is_refused}
 use Rattle.cdb_commands.specs.declared.command.Command.{Command}
@@ -12,15 +12,14 @@ use Rattle.cdb_rules.specs.RunView.{RunView}
 use Rattle.cdb_rules.specs.Rules.{Rules}
 use Rattle.cdb_setup.specs.Parts.{Parts}
 use Rattle.cdb_text.specs.Texts.{text_of}
-use Rattle.cdb_session.specs.Dialogues.{full_text, fault_response, long_line_text, answer_text, help_response}
-use Rattle.cdb_session.specs.Dialogues.{dialogue_by, watch_text}
+use Rattle.cdb_session.specs.Dialogues.{full_text, answer_text, own_response, dialogue_by}
 use Rattle.cdb_session.specs.Answers.{run_left}
 use Rattle.cdb_session.specs.Exchanges.{Answer, Exchange}
 use Rattle.cdb_session.specs.Moves.{Output}
 use Rattle.cdb_session.specs.Parts.{seat_next}
-use Rattle.cdb_session.specs.Requests.{AreAsked, seat_line}
+use Rattle.cdb_session.specs.Requests.{AreAsked}
 use Rattle.cdb_session.specs.declared.inquiry.Inquiry.{Inquiry}
-use Rattle.cdb_session.specs.declared.request.Request.TheVariants.{Call, Ask, Watch, Seat, Help, Quit, Fault, TooLong}
+use Rattle.cdb_session.specs.declared.request.Request.TheVariants.{Call, Ask}
 
 -- A session between two lines: the rules of its run, its control, whose state is the replay of its journal, the seat
 -- that the next command is of, and how many lines there were.
@@ -75,12 +74,7 @@ module _ (rules : Parts → Rules) (seat : ℕ) (command : Command) where
 abbrev pub response_to : Session → Exchange → List ℕ
 response_to s (Call command times, effect) = texts_at s.rules s.seat command s.control effect.given
 response_to s (Ask inquiry, effect) = answer_text (s.lines + 1) inquiry effect.answer effect.saved
-response_to s (Watch begins, effect) = watch_text begins
-response_to s (Seat seat, effect) = seat_line seat ++ codes "\n"
-response_to s (Help about, effect) = help_response (s.lines + 1) true about
-response_to s (Quit, effect) = []
-response_to s (Fault faulty, effect) = fault_response (s.lines + 1) true faulty
-response_to s (TooLong, effect) = long_line_text (s.lines + 1)
+response_to s exchange = own_response true s.lines exchange.0
 
 -- the control after it
 abbrev pub control_after : Session → Exchange → Journaled

@@ -6,12 +6,13 @@ ghost use Rattle.std.specs.Str.{bytes_eq};
 ghost use Rattle.cdb_text.specs.Grammar.{words_of};
 ghost use Rattle.cdb_text.specs.Pushes.{Pushes};
 ghost use Rattle.cdb_session.specs.Due.{due_text, names, words_at, is_number, may_stand};
-ghost use Rattle.cdb_session.specs.Due.{event, with_file, with_process, behind, dues_of};
+ghost use Rattle.cdb_session.specs.Due.{behind, dues_of};
 ghost use Rattle.cdb_session.specs.Due.{ends, stands, first_amiss, amiss_in, shown_byte, shown_word, amiss_text};
 
 use crate::inquiry::is_file_name;
 use crate::topic::{FIRST, Topic};
-use crate::typed::{ACTS, LOST, STOPS, VIEWS, is_digits};
+use crate::typed::{ACTS, LOST, STOPS, VIEWS};
+use cdb_text::number_of;
 use std::alloc::{AllocError, Global};
 
 /// What is due at a place of a line.
@@ -56,7 +57,7 @@ const SHOWN: usize = 20;
 fn is_number(word: &[u8]) -> bool
     ensures { result ≡ is_number word.now }
 {
-    is_digits(word) && word.len() <= 6 && word[0] != b'0'
+    number_of(word).is_some()
 }
 
 impl Due {
@@ -88,16 +89,9 @@ impl Due {
         ensures { result ≡ names self word.now }
     {
         match self {
-            Due::Process
-            | Due::ProcessOrLost
-            | Due::ProcessOrView
-            | Due::Message
-            | Due::Step
-            | Due::Round
-            | Due::Breakpoint
-            | Due::Count => is_number(word),
+            Due::Command | Due::Act | Due::Stop | Due::Register | Due::Seat | Due::Nothing => false,
             Due::File => is_file_name(word),
-            _ => false,
+            _ => is_number(word),
         }
     }
 
@@ -132,23 +126,6 @@ impl Due {
     }
 }
 
-/// What is due in a line that begins with `undo`, `rollback` or `why`, where these are its other words.
-fn event(words: &[&[u8]]) -> &'static [Due]
-    ensures { result.now ≡ Due.Command ∷ event (map (λ it. it.now) words.now) }
-{
-    match words {
-        [] => &[Due::Command, Due::ProcessOrLost],
-        [first, ..] if *first == b"lost".as_slice() => &[
-            Due::Command,
-            Due::ProcessOrLost,
-            Due::Process,
-            Due::Message,
-            Due::Process,
-        ],
-        _ => &[Due::Command, Due::ProcessOrLost, Due::Step],
-    }
-}
-
 /// What is due in a line that begins with `step`, where these are its other words.
 fn act(words: &[&[u8]]) -> &'static [Due]
     ensures { result.now ≡ Due.Command ∷ behind Topic.Step (map (λ it. it.now) words.now) }
@@ -171,65 +148,47 @@ fn act(words: &[&[u8]]) -> &'static [Due]
     &[Due::Command, Due::Process, Due::Act]
 }
 
-/// What is due in a line that begins with `break`, where these are its other words.
-fn stop(words: &[&[u8]]) -> &'static [Due]
-    ensures { result.now ≡ Due.Command ∷ behind Topic.Break (map (λ it. it.now) words.now) }
-{
-    match words {
-        [] => &[Due::Command, Due::Stop],
-        [stop, ..] if *stop == b"round".as_slice() => {
-            &[Due::Command, Due::Stop, Due::Process, Due::Round]
-        }
-        [stop, ..] if *stop == b"write".as_slice() => &[Due::Command, Due::Stop, Due::Register],
-        _ => &[Due::Command, Due::Stop, Due::Process],
-    }
-}
-
-/// What is due in a line that begins with `auto`, where these are its other words.
-fn repeated(words: &[&[u8]]) -> &'static [Due]
-    ensures { result.now ≡ Due.Command ∷ with_process Due.Count (map (λ it. it.now) words.now) }
-{
-    match words {
-        [] | [_] => &[Due::Command, Due::Process],
-        _ => &[Due::Command, Due::Process, Due::Count],
-    }
-}
-
-/// What is due in a line that begins with `explain` or `trail`, where these are its other words.
-fn asked(words: &[&[u8]]) -> &'static [Due]
-    ensures { result.now ≡ Due.Command ∷ with_process Due.Step (map (λ it. it.now) words.now) }
-{
-    match words {
-        [] | [_] => &[Due::Command, Due::Process],
-        _ => &[Due::Command, Due::Process, Due::Step],
-    }
-}
-
-/// What is due in a line that begins with `draw`, where these are its other words.
-fn drawing(words: &[&[u8]]) -> &'static [Due]
-    ensures { result.now ≡ Due.Command ∷ with_file (map (λ it. it.now) words.now) }
-{
-    match words {
-        [] | [_] => &[Due::Command, Due::File],
-        [_, _] => &[Due::Command, Due::File, Due::Process],
-        _ => &[Due::Command, Due::File, Due::Process, Due::Step],
-    }
-}
-
 /// What is due in a line that begins so, where these are its other words.
 fn line_of(first: Topic, words: &[&[u8]]) -> &'static [Due]
     ensures { result.now ≡ Due.Command ∷ behind first (map (λ it. it.now) words.now) }
 {
     match first {
         Topic::Step => act(words),
-        Topic::Auto => repeated(words),
+        Topic::Auto => match words {
+            [] | [_] => &[Due::Command, Due::Process],
+            _ => &[Due::Command, Due::Process, Due::Count],
+        },
         Topic::Lose => &[Due::Command, Due::Process, Due::Message, Due::Process],
-        Topic::Undo | Topic::Rollback | Topic::Why => event(words),
-        Topic::Break => stop(words),
+        Topic::Undo | Topic::Rollback | Topic::Why => match words {
+            [] => &[Due::Command, Due::ProcessOrLost],
+            [first, ..] if *first == b"lost".as_slice() => &[
+                Due::Command,
+                Due::ProcessOrLost,
+                Due::Process,
+                Due::Message,
+                Due::Process,
+            ],
+            _ => &[Due::Command, Due::ProcessOrLost, Due::Step],
+        },
+        Topic::Break => match words {
+            [] => &[Due::Command, Due::Stop],
+            [stop, ..] if *stop == b"round".as_slice() => {
+                &[Due::Command, Due::Stop, Due::Process, Due::Round]
+            }
+            [stop, ..] if *stop == b"write".as_slice() => &[Due::Command, Due::Stop, Due::Register],
+            _ => &[Due::Command, Due::Stop, Due::Process],
+        },
         Topic::Unbreak => &[Due::Command, Due::Breakpoint],
         Topic::Show => &[Due::Command, Due::ProcessOrView],
-        Topic::Explain | Topic::Trail => asked(words),
-        Topic::Draw => drawing(words),
+        Topic::Explain | Topic::Trail => match words {
+            [] | [_] => &[Due::Command, Due::Process],
+            _ => &[Due::Command, Due::Process, Due::Step],
+        },
+        Topic::Draw => match words {
+            [] | [_] => &[Due::Command, Due::File],
+            [_, _] => &[Due::Command, Due::File, Due::Process],
+            _ => &[Due::Command, Due::File, Due::Process, Due::Step],
+        },
         Topic::Help if !words.is_empty() => &[Due::Command, Due::Command],
         Topic::Seat => &[Due::Command, Due::Seat],
         _ => &[Due::Command],

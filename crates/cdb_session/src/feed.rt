@@ -17,6 +17,7 @@ use cdb_streams::OutputFault;
 use std::alloc::Global;
 
 /// Responds to the line that has ended, and keeps nothing then. Returns whether the line was `quit`.
+#[tactic(auto, using(crate::proofs::CallChain::calls_in_order))]
 pub(crate) fn respond_to_line<C: Caller, T: Console>(
     alloc: Global,
     style: &Style<'_>,
@@ -41,6 +42,7 @@ pub(crate) fn respond_to_line<C: Caller, T: Console>(
 
 /// Answers each line that ends in these bytes, up to `quit`, and holds what follows the last. Returns whether one was
 /// `quit`.
+#[tactic(auto, using(crate::proofs::CallChain::calls_in_order))]
 pub(crate) fn feed<C: Caller, T: Console>(
     alloc: Global,
     style: &Style<'_>,

@@ -25,6 +25,7 @@ const PIECE: usize = 4096;
 const MOST_INPUT: u64 = 1 << 63;
 
 /// Answers a last line that has not ended, if there is one.
+#[tactic(auto, using(crate::proofs::CallChain::calls_in_order))]
 fn respond_to_last<C: Caller, T: Console>(
     alloc: Global,
     style: &Style<'_>,
@@ -92,6 +93,7 @@ fn write_opening<T: Console>(style: &Style<'_>, console: &mut T) -> Result<(), F
 }
 
 /// Answers the lines as `run` does, and holds in `unfinished`, at first empty, what was read of the next line.
+#[tactic(auto, using(crate::proofs::CallChain::calls_in_order))]
 fn run_from_first<C: Caller, T: Console>(
     alloc: Global,
     style: &Style<'_>,

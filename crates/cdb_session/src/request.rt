@@ -7,6 +7,7 @@ ghost use Rattle.cdb_session.specs.declared.topic.Topic.{Topic as TopicName};
 ghost use Rattle.cdb_session.specs.Requests.{AsksFor, help_line, quit_line, seat_line};
 ghost use Rattle.cdb_session.specs.Requests.{most_seats, watch_line};
 ghost use Rattle.cdb_session.specs.News.{watches};
+ghost use Rattle.cdb_session.specs.Parts.{seat_next};
 
 use crate::inquiry::{Inquiry, inquiry_of, repeat_of};
 use crate::topic::Topic;
@@ -65,6 +66,16 @@ impl Request<'_> {
         match self {
             Request::Watch(begins) => *begins,
             _ => before,
+        }
+    }
+
+    /// The seat of the next line, where this one is of a seat and may choose another or may not.
+    pub(crate) fn seat_next(&self, chooses: bool, seat: u8) -> u8
+        ensures { result ≡ seat_next chooses seat self.now }
+    {
+        match self {
+            Request::Seat(chosen) if chooses => *chosen,
+            _ => seat,
         }
     }
 }

@@ -1,16 +1,13 @@
 //! A session: what its lines have led to.
 
-ghost use Rattle.std.specs.Prelude.{◌≡◌, ◌+◌, ◌-◌, ◌<◌, ◌≤◌, ◌^◌, ◌++◌, ℕ, None, codes, length, true, IfOk, OnOk};
+ghost use Rattle.std.specs.Prelude.{◌≡◌, ◌+◌, ◌-◌, ◌<◌, ◌≤◌, ◌^◌, ◌++◌, None, length, true, IfOk, OnOk};
 ghost use Rattle.cdb_commands.specs.ReplyView.{is_refused, reply_view};
 ghost use Rattle.cdb_text.specs.Pushes.{Pushes};
 ghost use Rattle.cdb_text.specs.Texts.{text_of};
-ghost use Rattle.cdb_session.specs.Dialogues.{full_text, help_response, prompt_after};
-ghost use Rattle.cdb_session.specs.Requests.{most_seats, seat_line};
-ghost use Rattle.cdb_setup.specs.Parts.{IsWithin};
-ghost use Rattle.cdb_session.specs.Replies.{own_response};
+ghost use Rattle.cdb_session.specs.Dialogues.{full_text, help_response, own_response, prompt_after};
 ghost use Rattle.cdb_control.specs.Journal.{entry};
 ghost use Rattle.cdb_session.specs.Exchanges.{Effect};
-ghost use Rattle.cdb_session.specs.Lines.{GivesOnce, PutsOut, Responds, Shows, seen_by};
+ghost use Rattle.cdb_session.specs.Lines.{GivesOnce, PutsOut, Shows, seen_by};
 ghost use Rattle.cdb_session.specs.News.{HasNews};
 ghost use Rattle.cdb_session.specs.Parts.{seat_next};
 ghost use Rattle.cdb_session.specs.Styles.{MakesNone, MaySit, Onward};
@@ -77,15 +74,16 @@ impl<C: Caller> Session<C> {
     }
 
     /// Gives a command so many times, or until it is refused, and returns the texts of the replies.
-    fn call_times(
+    #[tactic(auto, using(crate::proofs::CallChain::calls_in_order))]
+    fn call_times<'a>(
         &mut self,
         alloc: Global,
         style: &Style<'_>,
         command: &Command,
         times: u32,
-    ) -> Result<Vec<u8>, NoMemory>
+    ) -> Result<Shown<'a>, NoMemory>
         requires { MaySit style.now (C.seats self.old.caller) self.old.seat }
-        ensures responds { (effect : Effect) → Responds C.answers style.now effect result
+        ensures responds { (effect : Effect) → PutsOut C.answers style.now effect result
             (seen_by C.part self.old) (Request.Call command.now times) (seen_by C.part self.new) }
         ensures seat { self.new.seat ≡ self.old.seat }
         ensures lines { self.new.lines ≡ self.old.lines }
@@ -96,30 +94,10 @@ impl<C: Caller> Session<C> {
         let mut text = Vec::new(alloc);
         for _ in 0..times {
             if self.call(alloc, style, *command, &mut text)? {
-                return Ok(text);
+                return Ok(Shown::of(alloc, text));
             }
         }
-        Ok(text)
-    }
-
-    /// Does what a line asks for that asks for no command and nothing of the run, and returns the response.
-    fn respond_itself(
-        &mut self,
-        alloc: Global,
-        style: &Style<'_>,
-        request: &Request<'_>,
-    ) -> Result<Vec<u8>, NoMemory>
-        requires { self.old.lines < 2 ^ 64 - 1 }
-        ensures text { IfOk result
-            (λ text. text.items ≡ own_response style.now self.old.lines request.now) }
-        ensures after { self.new ≡ record self.old { seat = seat_next style.now.chooses self.old.seat request.now } }
-    {
-        if let Request::Seat(seat) = request {
-            if style.chooses {
-                self.seat = *seat;
-            }
-        }
-        own_response(alloc, style, self.lines, request)
+        Ok(Shown::of(alloc, text))
     }
 
     /// Asks something of the run, and returns what is put out then.
@@ -143,6 +121,7 @@ impl<C: Caller> Session<C> {
     }
 
     /// Does what a line asks for, and returns what is put out then. After an error the session is not to go on.
+    #[tactic(auto, using(crate::proofs::CallChain::calls_in_order))]
     fn respond<'a>(
         &mut self,
         alloc: Global,
@@ -150,30 +129,27 @@ impl<C: Caller> Session<C> {
         request: &Request<'a>,
     ) -> Result<Shown<'a>, NoMemory>
         requires sits { MaySit style.now (C.seats self.old.caller) self.old.seat }
-        requires chosen { (k : ℕ) → request.now ≡ Request.Seat k → IsWithin 1 most_seats k }
         requires lines { self.old.lines < 2 ^ 64 - 1 }
         ensures responds { (effect : Effect) → PutsOut C.answers style.now effect result (seen_by C.part self.old)
             request.now (seen_by C.part self.new) }
-        ensures seat { self.new.seat ≡ seat_next style.now.chooses self.old.seat request.now }
+        ensures seat { self.new.seat ≡ self.old.seat }
         ensures lines { self.new.lines ≡ self.old.lines }
         ensures watched { self.new.watched ≡ self.old.watched }
         ensures seats { C.seats self.new.caller ≡ C.seats self.old.caller }
         ensures later { Onward C.later self.old.caller self.new.caller }
     {
         match request {
-            Request::Call(command, times) => {
-                let text = self.call_times(alloc, style, command, *times)?;
-                Ok(Shown::of(alloc, text))
-            }
+            Request::Call(command, times) => self.call_times(alloc, style, command, *times),
             Request::Ask(inquiry) => self.ask(alloc, style, inquiry),
             _ => {
-                let text = self.respond_itself(alloc, style, request)?;
+                let text = own_response(alloc, style, self.lines, request)?;
                 Ok(Shown::of(alloc, text))
             }
         }
     }
 
     /// Looks at the journal where somebody watches before the line or after it.
+    #[tactic(auto, using(crate::proofs::CallChain::calls_in_order))]
     fn look(&mut self, alloc: Global, request: &Request<'_>) -> Result<News, NoMemory>
         ensures none { MakesNone (C.part self.old.caller) (C.part self.new.caller) }
         ensures news { IfOk result (λ news. HasNews (C.part self.new.caller) (length (C.part self.new.caller).calls)
@@ -194,6 +170,7 @@ impl<C: Caller> Session<C> {
 
     /// Does what a line asks for, and returns what is put out then: the news of others where somebody watches, the
     /// response, and the prompt unless the line was `quit`. After an error the session is not to go on.
+    #[tactic(auto, using(crate::proofs::CallChain::calls_in_order))]
     pub(crate) fn show<'a>(
         &mut self,
         alloc: Global,
@@ -201,7 +178,6 @@ impl<C: Caller> Session<C> {
         request: &Request<'a>,
     ) -> Result<Shown<'a>, NoMemory>
         requires sits { MaySit style.now (C.seats self.old.caller) self.old.seat }
-        requires chosen { (k : ℕ) → request.now ≡ Request.Seat k → IsWithin 1 most_seats k }
         requires lines { self.old.lines < 2 ^ 64 - 1 }
         ensures shows { Shows C.answers style.now result (seen_by C.part self.old)
             request.now (seen_by C.part self.new) }
@@ -215,6 +191,7 @@ impl<C: Caller> Session<C> {
         let shown = with_news(alloc, news.as_slice(), response, style, request)?;
         let watches = request.watches(self.watched.is_some());
         self.watched = if watches { Some(seen) } else { None };
+        self.seat = request.seat_next(style.chooses, self.seat);
         self.lines += 1;
         Ok(shown)
     }
@@ -248,7 +225,7 @@ fn own_response(
     request: &Request<'_>,
 ) -> Result<Vec<u8>, NoMemory>
     requires { lines < 2 ^ 64 - 1 }
-    ensures { IfOk result (λ text. text.items ≡ own_response style.now lines request.now) }
+    ensures { IfOk result (λ text. text.items ≡ own_response style.now.chooses lines request.now) }
 {
     let mut text = String::new(alloc);
     push_own_response(alloc, &mut text, style, lines, request)?;
@@ -263,7 +240,7 @@ fn push_own_response(
     request: &Request<'_>,
 ) -> Result<(), AllocError>
     requires { lines < 2 ^ 64 - 1 }
-    ensures { Pushes result text.old text.new (own_response style.now lines request.now) }
+    ensures { Pushes result text.old text.new (own_response style.now.chooses lines request.now) }
 {
     match request {
         Request::Seat(seat) => push_chosen(text, style, lines + 1, *seat),
@@ -294,7 +271,7 @@ fn push_help_response(
 /// The response to a line of this number that chooses a seat.
 fn push_chosen(text: &mut String, style: &Style<'_>, line: u64, seat: u8) -> Result<(), AllocError>
     requires { 1 ≤ line }
-    ensures { Pushes result text.old text.new (own_response style.now (line - 1) (Request.Seat seat)) }
+    ensures { Pushes result text.old text.new (own_response style.now.chooses (line - 1) (Request.Seat seat)) }
 {
     if style.chooses {
         return push_seat(text, seat);

@@ -4,7 +4,7 @@ ghost use Rattle.std.specs.Prelude.{◌≡◌, ◌++◌, ℕ, Bool, List, [], �
 ghost use Rattle.cdb_streams.specs.FaultTexts.{as_line};
 ghost use Rattle.cdb_session.specs.Answers.{answer_seen};
 ghost use Rattle.cdb_session.specs.Dialogues.{answer_text, saving_text, savings_of};
-ghost use Rattle.cdb_session.specs.Lines.{outputs_of};
+ghost use Rattle.cdb_session.specs.Lines.{IsText, outputs_of};
 ghost use Rattle.cdb_session.specs.Moves.{WritesAll, file, says};
 
 use crate::console::{Console, write_all};
@@ -34,7 +34,7 @@ pub struct Shown<'a> {
 impl<'a> Shown<'a> {
     /// A text, and no file.
     pub(crate) fn of(alloc: Global, text: Vec<u8>) -> Self
-        ensures { (news : List ℕ) (saved : Bool) → outputs_of news result saved ≡ says (news ++ text.items) }
+        ensures { IsText result text.items }
     {
         Shown {
             file: None,

@@ -129,18 +129,16 @@ fn due(words: &[&[u8]]) -> &'static [&'static [u8]]
 fn full<'a>(options: &[&'a [u8]], word: &'a [u8]) -> &'a [u8]
     ensures { result.now ≡ full (map (λ it. it.now) options.now) word.now }
 {
-    let at = match options.iter().position(|option| option.starts_with(word)) {
-        None => return word,
-        Some(at) => at,
-    };
-    if options[at + 1..]
-        .iter()
-        .any(|option| option.starts_with(word))
-    {
-        word
-    } else {
-        options[at]
+    let mut found = None;
+    for option in options {
+        if option.starts_with(word) {
+            if found.is_some() {
+                return word;
+            }
+            found = Some(*option);
+        }
     }
+    found.unwrap_or(word)
 }
 
 /// Adds a word.

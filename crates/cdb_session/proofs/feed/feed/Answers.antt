@@ -25,17 +25,11 @@ returns-in_err-respond_to_line-clause-feeds g c =
     some.1 some.0 c.in_ok-hold.ensures) c.in_err-respond_to_line.field-0.0 (seen_by g.C.Caller.part c.respond_to_line.new.session)
     c.respond_to_line.new.unfinished.items c.in_err-respond_to_line.ensures.unfinished)
 
-pub returns-in_err-respond_to_line-clause-later : goal.returns-in_err-respond_to_line-clause-later
-returns-in_err-respond_to_line-clause-later g c = Onward-trans g.C.Caller.later _ _ _ c.loop-line.invariant.later c.respond_to_line.ensures.later
-
 pub returns-then-branch-clause-feeds : goal.returns-then-branch-clause-feeds
 returns-then-branch-clause-feeds g c = λ first read a.
     let some = c.in-Some.ensures.some in
     quits (holds (c.loop-line.invariant.goes first read a) _ (10 ∷ c.in-Some.behind.now) c.hold.new.unfinished.items some.1 some.0 c.in_ok-hold.ensures)
     c.in_ok-respond_to_line.field-0 c.in_ok-respond_to_line.ensures.unfinished c.if-branch.true
-
-pub returns-then-branch-clause-later : goal.returns-then-branch-clause-later
-returns-then-branch-clause-later g c = Onward-trans g.C.Caller.later _ _ _ c.loop-line.invariant.later c.respond_to_line.ensures.later
 
 pub loop-line-preserved : goal.loop-line-preserved
 loop-line-preserved g c =

@@ -1,7 +1,6 @@
 use Rattle.std.proofs.Common.{inl, inr, refl}
 use Rattle.std.proofs.lemmas.Result.{err_from_is_err_and}
 use Rattle.cdb_base.specs.declared.no_memory.NoMemory.{NoMemory}
-use Rattle.cdb_session.specs.Styles.{stays}
 use Rattle.cdb_session.proofs.GotReplies.{MakesNone-refl}
 use Rattle.cdb_session.proofs.LineResponse.{line_handled}
 use Rattle.cdb_session.proofs.feed.respond_to_line.Goals as goal
@@ -10,9 +9,6 @@ pub returns-in_err-line-clause-unfinished : goal.returns-in_err-line-clause-unfi
 returns-in_err-line-clause-unfinished g c =
     let p = err_from_is_err_and c.from_residual.result c.from_residual.ensures.1 in
     rw (p.1, p.2) (refl, inl (MakesNone-refl (g.C.Caller.part c.args.session.now.caller)))
-
-pub returns-in_err-line-clause-later : goal.returns-in_err-line-clause-later
-returns-in_err-line-clause-later g c = stays
 
 pub returns-in_err-show-clause-unfinished : goal.returns-in_err-show-clause-unfinished
 returns-in_err-show-clause-unfinished g c =

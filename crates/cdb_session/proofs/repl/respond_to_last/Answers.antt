@@ -1,7 +1,6 @@
 use Rattle.std.proofs.Common.{arith}
 use Rattle.std.proofs.lemmas.Result.{err_from_is_err_and}
 use Rattle.cdb_session.specs.Lines.{seen_by}
-use Rattle.cdb_session.specs.Styles.{stays}
 use Rattle.cdb_session.proofs.Emptiness.{none_where_empty, some_where_not_empty}
 use Rattle.cdb_session.proofs.FedBytes.{last_none, last_done, last_fails}
 use Rattle.cdb_session.proofs.repl.respond_to_last.Goals as goal
@@ -10,9 +9,6 @@ pub returns-then-is_empty-clause-last : goal.returns-then-is_empty-clause-last
 returns-then-is_empty-clause-last g c =
     last_none _ (seen_by g.C.Caller.part c.args.session.now) c.args.unfinished.now.items
     (omega (arith, none_where_empty _ _ c.is_empty.ensures c.if-is_empty.true, c.args.unfinished.now.ok.0))
-
-pub returns-then-is_empty-clause-later : goal.returns-then-is_empty-clause-later
-returns-then-is_empty-clause-later g c = stays
 
 pub returns-in_err-respond_to_line-clause-last : goal.returns-in_err-respond_to_line-clause-last
 returns-in_err-respond_to_line-clause-last g c =

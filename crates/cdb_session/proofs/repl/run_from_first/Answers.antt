@@ -12,9 +12,6 @@ returns-in_default-clause-all g c =
     not_started g.C.Caller.answers c.args.style.now (seen_by g.C.Caller.part c.args.session.now) (c.requires.calls, c.requires.replies)
     (Unit {0}) (Unit {0}) tt c.in_default.ensures
 
-pub returns-in_default-clause-later : goal.returns-in_default-clause-later
-returns-in_default-clause-later g c = stays
-
 pub loop-read-init : goal.loop-read-init
 loop-read-init g c = record {
   few = omega (arith, ap length c.requires.empty);
@@ -35,26 +32,17 @@ returns-then-count-eq0-clause-all g c =
     over_at_end g.C.Caller.answers c.args.style.now c.loop-read.invariant.arrives c.in-Ok-read.count c.read.new.buffer
     c.in-Ok-read.ensures.moves c.if-count-eq0.true (seen_by g.C.Caller.part c.respond_to_last.new.session) c.respond_to_last.ensures.last
 
-pub returns-then-count-eq0-clause-later : goal.returns-then-count-eq0-clause-later
-returns-then-count-eq0-clause-later g c = Onward-trans g.C.Caller.later _ _ _ c.loop-read.invariant.later c.respond_to_last.ensures.later
-
 pub returns-in_err-feed-clause-all : goal.returns-in_err-feed-clause-all
 returns-in_err-feed-clause-all g c =
     let p = err_from_is_err_and c.from_residual.result c.from_residual.ensures.1 in
     rw (p.1, p.2) (c.in_err-feed.ensures.feeds _ _ (given g.C.Caller.answers c.args.style.now c.loop-read.invariant.arrives
     c.in-Ok-read.count c.read.new.buffer c.in-Ok-read.ensures.moves (omega (arith, c.in-Ok-read.ensures.within)) c.if-count-eq0.false))
 
-pub returns-in_err-feed-clause-later : goal.returns-in_err-feed-clause-later
-returns-in_err-feed-clause-later g c = Onward-trans g.C.Caller.later _ _ _ c.loop-read.invariant.later c.feed.ensures.later
-
 pub returns-then-branch-clause-all : goal.returns-then-branch-clause-all
 returns-then-branch-clause-all g c =
     let feeds = rw c.if-branch.true at c.in_ok-feed.ensures.feeds in
     feeds _ _ (given g.C.Caller.answers c.args.style.now c.loop-read.invariant.arrives c.in-Ok-read.count c.read.new.buffer
     c.in-Ok-read.ensures.moves (omega (arith, c.in-Ok-read.ensures.within)) c.if-count-eq0.false)
-
-pub returns-then-branch-clause-later : goal.returns-then-branch-clause-later
-returns-then-branch-clause-later g c = Onward-trans g.C.Caller.later _ _ _ c.loop-read.invariant.later c.feed.ensures.later
 
 pub loop-read-preserved : goal.loop-read-preserved
 loop-read-preserved g c =
@@ -75,6 +63,3 @@ pub returns-clause-all : goal.returns-clause-all
 returns-clause-all g c =
     over_at_most g.C.Caller.answers c.args.style.now c.loop-read.invariant.arrives c.loop-read-test.false
     (seen_by g.C.Caller.part c.respond_to_last-2.new.session) c.respond_to_last-2.ensures.last
-
-pub returns-clause-later : goal.returns-clause-later
-returns-clause-later g c = Onward-trans g.C.Caller.later _ _ _ c.loop-read.invariant.later c.respond_to_last-2.ensures.later

@@ -1,9 +1,11 @@
 use Rattle.std.proofs.Common.{◌≡◌, position, refl, sym, ◌∙◌, rules, tests}
+use Rattle.std.specs.List.{position_or_len}
 use Rattle.std.proofs.lemmas.List.{take_rest}
+use Rattle.std.proofs.lemmas.List.Sums.{position_or_len_is}
 use Rattle.std.proofs.lemmas.Iterator.{YieldsList-from_slice}
 use Rattle.std.proofs.lemmas.Iterator.Search.{position_from_yields_List}
 use Rattle.cdb_session.specs.Typed.{is_mark}
-use Rattle.cdb_session.proofs.Names.{no_name, position_is, position_none}
+use Rattle.cdb_session.proofs.Names.{no_name, position_none}
 use Rattle.cdb_session.proofs.typed.halves.Goals as goal
 
 pub returns-in-None-clause-none : goal.returns-in-None-clause-none
@@ -15,16 +17,8 @@ returns-in-None-clause-none c =
 
 pub returns-in-Some-clause-one : goal.returns-in-Some-clause-one
 returns-in-Some-clause-one c =
-    let piece = c.args.piece.now in
-    let found : c.position.result ≡ position is_mark piece =
-    position_from_yields_List is_mark _ _ c.position.result c.position.ensures.ran (YieldsList-from_slice piece cc) (λ x b q k. search (rules, tests)) in
-    let at = position_is is_mark piece c.in-Some.at (sym found ∙ c.in-Some.is) in
-    rw (at) refl
+    let at : position_or_len is_mark c.args.piece.now ≡ c.in-Some.at = search (rules, tests, position_or_len_is) in rw at refl
 
 pub returns-in-Some-clause-other : goal.returns-in-Some-clause-other
 returns-in-Some-clause-other c =
-    let piece = c.args.piece.now in
-    let found : c.position.result ≡ position is_mark piece =
-    position_from_yields_List is_mark _ _ c.position.result c.position.ensures.ran (YieldsList-from_slice piece cc) (λ x b q k. search (rules, tests)) in
-    let at = position_is is_mark piece c.in-Some.at (sym found ∙ c.in-Some.is) in
-    rw (at, take_rest) refl
+    let at : position_or_len is_mark c.args.piece.now ≡ c.in-Some.at = search (rules, tests, position_or_len_is) in rw (at, take_rest) refl

@@ -5,7 +5,6 @@ use Rattle.cdb_base.specs.declared.no_memory.NoMemory.{NoMemory}
 use Rattle.cdb_session.specs.Dialogues.{prompt_after}
 use Rattle.cdb_session.specs.Lines.{seen_by}
 use Rattle.cdb_session.specs.News.{watches}
-use Rattle.cdb_session.proofs.CallChain.{Onward-trans}
 use Rattle.cdb_session.proofs.LineResponse.{unanswered, unshown, shows}
 use Rattle.cdb_session.proofs.session.Session.show.Goals as goal
 use Rattle.cdb_session.proofs.session.Session.show.Goals.{then-watches, else-watches}
@@ -23,9 +22,6 @@ returns-in_err-response-clause-shows g c =
     (unanswered g.C.Caller.answers c.args.style.now old mid (seen_by g.C.Caller.part c.respond.new.self) looked.none is_mid c.args.request.now news.seen
     news.text.items c.in_ok-news.ensures.news NoMemory NoMemory c.in_err-response.field-0.0 p.0 c.in_err-response.ensures.responds)
 
-pub returns-in_err-response-clause-later : goal.returns-in_err-response-clause-later
-returns-in_err-response-clause-later g c = Onward-trans g.C.Caller.later _ _ _ c.look.ensures.later c.respond.ensures.later
-
 pub returns-in_err-shown-clause-shows : goal.returns-in_err-shown-clause-shows
 returns-in_err-shown-clause-shows g c =
     let p = err_from_is_err_and c.from_residual-in_err-shown.result c.from_residual-in_err-shown.ensures.1 in
@@ -38,9 +34,6 @@ returns-in_err-shown-clause-shows g c =
     rw p.1
     (unshown g.C.Caller.answers c.args.style.now old mid (seen_by g.C.Caller.part c.respond.new.self) looked.none is_mid c.args.request.now news.seen
     news.text.items c.in_ok-news.ensures.news NoMemory NoMemory c.in_ok-response.response p.0 c.in_ok-response.ensures.responds)
-
-pub returns-in_err-shown-clause-later : goal.returns-in_err-shown-clause-later
-returns-in_err-shown-clause-later g c = Onward-trans g.C.Caller.later _ _ _ c.look.ensures.later c.respond.ensures.later
 
 pub returns-clause-shows : goal.returns-clause-shows
 returns-clause-shows g c =
@@ -70,6 +63,3 @@ returns-clause-shows g c =
       text_is = c.in_ok-shown.ensures.text ∙ ap (between c.in_ok-response.response.text.items) c.as_slice.ensures.value;
       failed_is = c.in_ok-shown.ensures.failed ∙ ap (between c.in_ok-response.response.failed.items) c.as_slice.ensures.value;
     }) c.if-watches.self watched
-
-pub returns-clause-later : goal.returns-clause-later
-returns-clause-later g c = Onward-trans g.C.Caller.later _ _ _ c.look.ensures.later c.respond.ensures.later

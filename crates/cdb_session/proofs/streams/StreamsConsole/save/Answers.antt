@@ -1,6 +1,6 @@
 use Rattle.std.proofs.Common.{refl}
 use Rattle.std.proofs.KnownBytes.{Appends-nil, Consumes-nil}
-use Rattle.cdb_session.proofs.InputEnd.{file_is_no_end}
+use Rattle.cdb_session.proofs.InputEnd.{is_no_end}
 use Rattle.cdb_session.proofs.streams.StreamsConsole.save.Goals as goal
 
 pub returns : goal.returns
@@ -8,7 +8,7 @@ returns g c = record {
   moves = record {
     moves = tt;
     left = Consumes-nil _;
-    all = file_is_no_end _ _;
+    all = is_no_end _ (λ asks. asks);
     held = Appends-nil _;
     saved = c.save.ensures;
     failed_reads = refl;
