@@ -1,5 +1,5 @@
 -- More seats change no reply to the others.
-use Rattle.std.proofs.Common.{◌≡◌, ℕ, ◌+◌, ◌-◌, ◌<◌, ◌≤◌, List, [], ◌∷◌, ◌++◌, length, replicate, set, refl, sym, ap, ◌∙◌, arith}
+use Rattle.std.proofs.Common.{◌≡◌, ℕ, ◌+◌, ◌-◌, ◌<◌, ◌≤◌, List, [], ◌∷◌, ◌++◌, length, replicate, set, refl, ap, ◌∙◌, arith}
 use Rattle.std.proofs.lemmas.List.{length-replicate, replicate-append-replicate, set-append_left, get_or_append_left}
 use Rattle.cdb_base.specs.Positions.{without_last}
 use Rattle.cdb_base.specs.declared.event.Event.{Event}
@@ -70,7 +70,5 @@ pub replied_again : (rules : Rules) (setup : Parts) (seats wide : ℕ) (journal 
 replied_again rules setup seats wide journal few all =
     let none : List Event = [] in
     let sum : seats + (wide - seats) ≡ wide = omega (arith, few) in
-    let parts : replicate seats none ++ replicate (wide - seats) none ≡ replicate wide none =
-    replicate-append-replicate seats (wide - seats) none ∙ ap (λ (n : ℕ). replicate n none) sum in
-    ap (λ (redo : List (List Event)). seat_replies_from rules (record (first_control_state setup seats) { redo = redo }) journal) (sym parts)
-    ∙ replies_padded rules (replicate (wide - seats) none) (first_control_state setup seats) seats journal (length-replicate seats none) all
+    rw (← sum, ← replicate-append-replicate seats (wide - seats) none)
+    (replies_padded rules (replicate (wide - seats) none) (first_control_state setup seats) seats journal (length-replicate seats none) all)

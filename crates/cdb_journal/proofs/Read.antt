@@ -20,16 +20,15 @@ begun text = record { read = []; whole = refl; entries_are = tt; so_many = refl 
 one_more : (entries : List Entry) (lines : List (List ℕ)) (e : Entry) (line : List ℕ) → AreEntriesOf entries lines
     → IsEntryLine e.seat e.command line → AreEntriesOf (entries ++ e ∷ []) (lines ++ line ∷ [])
 one_more [] [] e line are is = (is, tt)
-one_more [] (other ∷ lines) e line are is = absurd are
-one_more (other ∷ entries) [] e line are is = absurd are
 one_more (other ∷ entries) (other_line ∷ lines) e line are is = (are.0, one_more entries lines e line are.1 is)
+one_more entries lines e line are is = absurd are
 
-pub nothing_left : (rest : List ℕ) → length rest ≡ 0 → rest ≡ []
-nothing_left [] e = refl
-nothing_left (x ∷ xs) e = absurd (omega (arith, e))
+nothing_left : (rest : List ℕ) → length rest ≡ 0 → rest ≡ []
+nothing_left [] none = refl
+nothing_left (x ∷ xs) none = absurd (omega arith)
 
 pub no_lines_left : (rest : List ℕ) → length rest ≡ 0 → length (lines_of rest) ≡ 0
-no_lines_left rest none = ap (λ (r : List ℕ). length (lines_of r)) (nothing_left rest none) ∙ ap length no_lines
+no_lines_left rest none = rw (nothing_left rest none, no_lines) refl
 
 module _ (text : List ℕ) (entries : List Entry) (rest line behind : List ℕ)
     (u : IsUnderWay text entries rest) (cut : lines_of rest ≡ line ∷ lines_of behind) where
@@ -50,4 +49,4 @@ module _ (text : List ℕ) (entries : List Entry) (rest line behind : List ℕ)
 
 pub ended : (text : List ℕ) (entries : List Entry) (rest : List ℕ) → IsUnderWay text entries rest → length rest ≡ 0 → AreEntriesOf entries (lines_of text)
 ended text entries rest u none =
-    rw (u.whole ∙ ap (λ r. u.read ++ lines_of r) (nothing_left rest none) ∙ ap (λ lines. u.read ++ lines) no_lines ∙ append-nil u.read) u.entries_are
+    rw (u.whole, nothing_left rest none, no_lines, append-nil) u.entries_are

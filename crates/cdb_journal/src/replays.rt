@@ -1,7 +1,8 @@
 //! A journal is played again: its commands are carried out one after the other, each for its seat, and each reply is
 //! written.
 
-ghost use Rattle.std.specs.Prelude.{◌≡◌, ◌+◌, ◌<◌, ◌≤◌, [], ◌++◌, codes, decimal, length, Err, IfErr, IfOk, OnOk};
+ghost use Rattle.std.specs.Prelude.{◌≡◌, ◌+◌, ◌<◌, ◌≤◌, [], ◌++◌, codes, decimal, length, replicate};
+ghost use Rattle.std.specs.Prelude.{Err, IfErr, IfOk, OnOk};
 ghost use Rattle.cdb_base.specs.Limits.{MAX_ENTRIES, MAX_SEATS};
 ghost use Rattle.cdb_control.specs.Journal.{AreOfSeats, control_state, extended, reply_in};
 ghost use Rattle.cdb_setup.specs.Parts.{IsWithin};
@@ -57,7 +58,7 @@ fn perform<T: Runs, W: Sink>(
 }
 
 /// Carries the commands out, one after the other, each for its seat, and puts the line of each reply, whose text is
-/// made in `text`. After an error what was put is a beginning of the lines.
+/// made in `text`. No seat has room. After an error what was put is a beginning of the lines.
 fn perform_each<T: Runs, W: Sink>(
     alloc: Global,
     control: &mut Control<T>,
@@ -68,6 +69,7 @@ fn perform_each<T: Runs, W: Sink>(
 ) -> Result<(), OutputFault>
     requires seats { AreOfSeats control.old.seats entries.now }
     requires room { length control.old.journal + length entries.now ≤ MAX_ENTRIES }
+    requires rooms { control.old.rooms ≡ replicate control.old.seats 0 }
     ensures { Puts W.stream result out.old buffer.old out.new buffer.new
         (seat_replies_text (seat_replies_from (T.rules control.old.setup) (control_state T.rules control.old)
         entries.now)) }

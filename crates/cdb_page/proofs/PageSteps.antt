@@ -1,178 +1,143 @@
 -- Where the causes and the dependents of entries lead.
-use Rattle.std.proofs.Common.{◌≡◌, ℕ, zero, suc, ◌+◌, ◌<◌, ◌≤◌, inl, inr, ◌↔◌, List, [], ◌∷◌, Contains, Some, length, refl, sym, ap, ◌∙◌, subst, arith}
+use Rattle.std.proofs.Common.{◌≡◌, ℕ, zero, suc, ◌+◌, ◌<◌, ◌≤◌, inl, inr, ◌↔◌, List, Contains, Some, length, refl, sym, arith}
 use Rattle.std.specs.List.{range_with_len}
-use Rattle.std.proofs.lemmas.Bool.{cases_eq}
-use Rattle.std.proofs.lemmas.Option.{none-some}
+use Rattle.std.proofs.lemmas.Grind.{common_steps}
+use Rattle.std.proofs.lemmas.Option.{gets, none-some, slice_get_cases, slice_get_within}
 use Rattle.cdb_base.specs.Positions.{nth}
 use Rattle.cdb_base.specs.declared.event.Event.{Event}
-use Rattle.cdb_causal.proofs.Lists.{nth_within}
-use Rattle.cdb_causal.proofs.PastLaws.{by_direct_causes, turned_round}
-use Rattle.cdb_causal.specs.Causality.{IsDirectCause, IsLink, direct, onward}
+use Rattle.cdb_causal.proofs.Chains.{later_consequence}
+use Rattle.cdb_causal.proofs.PastLaws.{by_direct_causes, linked_past, turned_round}
+use Rattle.cdb_causal.specs.Causality.{IsDirectCause, direct, onward}
 use Rattle.cdb_causal.specs.Dependence.{depends}
-use Rattle.cdb_causal.specs.Past.{HasLedTo, IsInPast, one_link, link_before}
-use Rattle.cdb_causal.specs.Rollback.{IsParted, IsRolledBack, kept, gone}
+use Rattle.cdb_causal.specs.Past.{HasLedTo}
+use Rattle.cdb_causal.specs.Rollback.{IsParted, IsRolledBack, done, kept, gone}
 use Rattle.cdb_process.proofs.Members.{IsIn, contained_in, in_contained}
 use Rattle.cdb_rules.specs.RunView.{RunView}
-use Rattle.cdb_rules.proofs.NamesFound.{stands_from_one}
 use Rattle.cdb_page.specs.Entries.{AreEntries, IsEntry}
 use Rattle.cdb_page.specs.Followed.{IsReached, itself, its_causes, its_dependents}
 use Rattle.cdb_page.specs.Followed.{onward as further}
+use Rattle.cdb_page.specs.Listed.{AreAllIn}
 use Rattle.cdb_page.specs.declared.entries.Entry.{Entry}
 
 -- ---- what is listed of a set
 
--- the numbers from one on, so many
-abbrev from : ℕ → ℕ → List ℕ
-from a zero = []
-from a (suc n) = a ∷ from (suc a) n
-
-range_from : (a n : ℕ) → range_with_len a n ≡ from a n
-range_from a zero = refl
-range_from a (suc n) =
-    let next : a + 1 ≡ suc a = omega arith in
-    ap (λ xs. a ∷ xs) (ap (λ b. range_with_len b n) next ∙ range_from (suc a) n)
-
 module _ (InSet : ℕ → Type 0) where
-  only : (a n : ℕ) (others found : List ℕ) → IsParted InSet a (from a n) others found → (i : ℕ) → IsIn i found → InSet i
-  only a zero others [] parted i here = elim here [ ]
-  only a zero [] (_ ∷ _) parted i here = elim parted [ ]
-  only a zero (_ ∷ _) (_ ∷ _) parted i here = elim parted [ ]
-  only a (suc n) others found (kept out rest) i here = only (suc a) n _ found rest i here
-  only a (suc n) others found (gone is rest) i (inl same) = subst InSet (sym same) is
-  only a (suc n) others found (gone is rest) i (inr here) = only (suc a) n others _ rest i here
+  found_of : (n a : ℕ) {others found : List ℕ} → IsParted InSet a (range_with_len a n) others found
+      → (i : ℕ) → IsIn i found ↔ (InSet i × (a ≤ i) × (i < a + n))
+  found_of zero a done i = (λ none. absurd none, λ is. absurd (omega arith))
+  found_of (suc n) a (kept out rest) i =
+      let next : a + 1 ≡ suc a = omega arith in
+      let again = found_of n (suc a) (rw next at rest) i in
+      grind arith
+  found_of (suc n) a (gone is rest) i =
+      let next : a + 1 ≡ suc a = omega arith in
+      let again = found_of n (suc a) (rw next at rest) i in
+      grind arith
 
-  each : (a n : ℕ) (others found : List ℕ) → IsParted InSet a (from a n) others found → (i : ℕ) → InSet i → a ≤ i → i < a + n → IsIn i found
-  each a zero others found parted i is low high = absurd (omega (arith, low, high))
-  each a (suc n) others found (kept out rest) i is low high = elim (cases_eq i a) [
-    | inl same ↦ absurd (out (subst InSet same is))
-    | inr other ↦ each (suc a) n _ found rest i is (omega (arith, low, other)) (omega (arith, high))
-  ]
-  each a (suc n) others (x ∷ found) (gone here rest) i is low high = elim (cases_eq i a) [
-    | inl same ↦ inl same
-    | inr other ↦ inr (each (suc a) n others found rest i is (omega (arith, low, other)) (omega (arith, high)))
-  ]
+  pub listed : (history : List Event) (found : List ℕ) → AreAllIn history InSet found
+      → (i : ℕ) → Contains found i ↔ (InSet i × (1 ≤ i) × (i ≤ length history))
+  listed history found all i =
+      let its = found_of (length history) 1 all.parted i in (
+        λ here. let (is, low, high) = its.0 (contained_in found i here) in (is, low, omega (arith, high)),
+        λ (is, low, high). in_contained found i (its.1 (is, low, omega (arith, high))),
+      )
 
-  listed_only : (n : ℕ) (others found : List ℕ) → IsParted InSet 1 (range_with_len 1 n) others found → (i : ℕ) → IsIn i found → InSet i
-  listed_only n others found parted = only 1 n others found (subst (λ (xs : List ℕ). IsParted InSet 1 xs others found) (range_from 1 n) parted)
+-- ---- what led to an event, by direct causes
 
-  listed_each : (n : ℕ) (others found : List ℕ) → IsParted InSet 1 (range_with_len 1 n) others found → (i : ℕ) → InSet i → 1 ≤ i → i < 1 + n → IsIn i found
-  listed_each n others found parted = each 1 n others found (subst (λ (xs : List ℕ). IsParted InSet 1 xs others found) (range_from 1 n) parted)
+-- what holds of an event, and with each of that of its direct causes, holds of all that has led to it
+module _ (history : List Event) (at : ℕ) (Holds : ℕ → Type 0) (here : Holds at)
+    (before : (i j : ℕ) → IsDirectCause depends history i j → Holds j → Holds i) where
+  down : (n other : ℕ) → at ≤ other + n → HasLedTo depends history at other → Holds other
+  down n other few (inl same) = rw same here
+  down zero other few (inr past) =
+      let later = later_consequence depends history other ((turned_round depends history other at).0 past) in
+      absurd (omega (arith, few, later))
+  down (suc n) other few (inr past) =
+      let (k, cause, led) = (by_direct_causes depends history other at).0 past in
+      let later = cause.link.later in
+      before other k cause (down n k (omega (arith, few, later)) led)
 
--- ---- positions
+  pub by_causes : (other : ℕ) → HasLedTo depends history at other → Holds other
+  by_causes other = down at other (omega arith)
 
-some_at : {A : Type 0} (xs : List A) (at : ℕ) → 1 ≤ at → at ≤ length xs → (x : A) × (nth xs at ≡ Some x)
-some_at xs zero low high = absurd (omega (arith, low))
-some_at [] (suc i) low high = absurd (omega (arith, high))
-some_at (x ∷ xs) (suc zero) low high = (x, refl)
-some_at (x ∷ xs) (suc (suc i)) low high = some_at xs (suc i) (omega arith) (omega (arith, high))
-
-past_earlier : (history : List Event) (j i : ℕ) → IsInPast depends history j i → i < j
-past_earlier history j i (one_link link) = link.later
-past_earlier history j i (link_before {i = k} link rest) =
-    let one = link.later in
-    let two = past_earlier history j k rest in
-    omega (arith, one, two)
+-- ---- the entries
 
 module _ (run : RunView) (entries : List Entry) (are : AreEntries run entries) where
+  abbrev history : List Event
+  history = run.history
+
   -- the entry of a position is its own, and each event has one
   pub entry_of : (at : ℕ) (entry : Entry) → nth entries at ≡ Some entry → IsEntry run at entry
   entry_of zero entry is = absurd (none-some entry is)
   entry_of (suc i) entry is = are.1 i entry is
 
-  pub has_entry : (at : ℕ) (event : Event) → nth run.history at ≡ Some event → (entry : Entry) × (nth entries at ≡ Some entry)
-  has_entry at event is =
-      let low = stands_from_one run.history at event is in
-      let high = nth_within run.history at event is in
+  pub has_entry : (at : ℕ) (event : Event) → nth history at ≡ Some event → (entry : Entry) × (nth entries at ≡ Some entry)
+  has_entry zero event stands = absurd (none-some event stands)
+  has_entry (suc i) event stands =
       let number = are.0 in
-      some_at entries at low (omega (arith, high, number))
+      elim (slice_get_cases entries i).1 [
+        | inl (entry, low, is, same) ↦ (entry, is)
+        | inr (past, none) ↦ absurd (omega (arith, slice_get_within history i event stands, number, past))
+      ]
 
-  abbrev IsLinked : ℕ → ℕ → Type 0
-  IsLinked = IsLink depends run.history
+  cause_within : (i j : ℕ) → IsDirectCause depends history i j → (1 ≤ i) × (i ≤ length history)
+  cause_within i j cause = let link = cause.link in grind (arith, common_steps, gets)
 
-  abbrev IsDirect : ℕ → ℕ → Type 0
-  IsDirect = IsDirectCause depends run.history
+  effect_within : (i j : ℕ) → IsDirectCause depends history i j → (1 ≤ j) × (j ≤ length history)
+  effect_within i j cause = let link = cause.link in grind (arith, common_steps, gets)
 
-  is_cause : (at other : ℕ) (entry : Entry) → nth entries at ≡ Some entry → Contains (its_causes entry) other → IsDirect other at
-  is_cause at other entry is here =
-      let listed = (entry_of at entry is).causes in
-      listed_only (λ it. IsDirect it at) (length run.history) listed.0 (its_causes entry) listed.1 other (contained_in (its_causes entry) other here)
+  -- an entry lists the direct causes, and the events of which its own is one
+  module _ (at : ℕ) (entry : Entry) (is : nth entries at ≡ Some entry) (other : ℕ) where
+    its_cause : Contains (its_causes entry) other ↔ IsDirectCause depends history other at
+    its_cause =
+        let all = listed (λ it. IsDirectCause depends history it at) history _ (entry_of at entry is).causes other in
+        (λ here. (all.0 here).0, λ cause. let (low, high) = cause_within other at cause in all.1 (cause, low, high))
 
-  has_cause : (at other : ℕ) (entry : Entry) → nth entries at ≡ Some entry → IsDirect other at → Contains (its_causes entry) other
-  has_cause at other entry is cause =
-      let listed = (entry_of at entry is).causes in
-      let low = stands_from_one run.history other cause.link.cause cause.link.at_cause in
-      let high = nth_within run.history other cause.link.cause cause.link.at_cause in
-      in_contained (its_causes entry) other
-      (listed_each (λ it. IsDirect it at) (length run.history) listed.0 (its_causes entry) listed.1 other cause low (omega (arith, high)))
-
-  is_dependent : (at other : ℕ) (entry : Entry) → nth entries at ≡ Some entry → Contains (its_dependents entry) other → IsDirect at other
-  is_dependent at other entry is here =
-      let listed = (entry_of at entry is).dependents in
-      listed_only (λ it. IsDirect at it) (length run.history) listed.0 (its_dependents entry) listed.1 other (contained_in (its_dependents entry) other here)
-
-  has_dependent : (at other : ℕ) (entry : Entry) → nth entries at ≡ Some entry → IsDirect at other → Contains (its_dependents entry) other
-  has_dependent at other entry is cause =
-      let listed = (entry_of at entry is).dependents in
-      let low = stands_from_one run.history other cause.link.effect cause.link.at_effect in
-      let high = nth_within run.history other cause.link.effect cause.link.at_effect in
-      in_contained (its_dependents entry) other
-      (listed_each (λ it. IsDirect at it) (length run.history) listed.0 (its_dependents entry) listed.1 other cause low (omega (arith, high)))
+    its_dependent : Contains (its_dependents entry) other ↔ IsDirectCause depends history at other
+    its_dependent =
+        let all = listed (λ it. IsDirectCause depends history at it) history _ (entry_of at entry is).dependents other in
+        (λ here. (all.0 here).0, λ cause. let (low, high) = effect_within at other cause in all.1 (cause, low, high))
 
   -- ---- the past
 
-  abbrev Causes : ℕ → ℕ → Type 0
-  Causes = IsReached its_causes entries
+  led : (at other : ℕ) → IsReached its_causes entries at other → HasLedTo depends history at other
+  led at other itself = inl refl
+  led at other (further {at = k} {entry = entry} before is here) =
+      inr (linked_past depends history at other k ((its_cause k entry is other).0 here).link (led at k before))
 
-  led_before : (at k other : ℕ) → IsLinked other k → HasLedTo depends run.history at k → HasLedTo depends run.history at other
-  led_before at k other link (inl same) = inr (one_link (subst (IsLinked other) same link))
-  led_before at k other link (inr past) = inr (link_before link past)
-
-  causes_led : (at other : ℕ) → Causes at other → HasLedTo depends run.history at other
-  causes_led at other itself = inl refl
-  causes_led at other (further {at = k} {entry = entry} before is here) = led_before at k other (is_cause k other entry is here).link (causes_led at k before)
-
-  led_causes : (n at other : ℕ) → at ≤ other + n → HasLedTo depends run.history at other → Causes at other
-  led_causes n at other few (inl same) = subst (Causes at) (sym same) itself
-  led_causes zero at other few (inr past) = let earlier = past_earlier run.history at other past in absurd (omega (arith, few, earlier))
-  led_causes (suc n) at other few (inr past) =
-      let (k, cause, led) = (by_direct_causes depends run.history other at).0 past in
-      let later = cause.link.later in
-      let entry = has_entry k cause.link.effect cause.link.at_effect in
-      further (led_causes n at k (omega (arith, few, later)) led) entry.1 (has_cause k other entry.0 entry.1 cause)
-
-  pub causes_are_the_past : (at other : ℕ) → Causes at other ↔ HasLedTo depends run.history at other
-  causes_are_the_past at other = (causes_led at other, led_causes at at other (omega arith))
+  pub causes_are_the_past : (at other : ℕ) → IsReached its_causes entries at other ↔ HasLedTo depends history at other
+  causes_are_the_past at other = (
+    led at other,
+    by_causes history at (IsReached its_causes entries at) itself
+        (λ i j cause reached. let (entry, is) = has_entry j cause.link.effect cause.link.at_effect in further reached is ((its_cause j entry is i).1 cause))
+        other,
+  )
 
   -- ---- the consequences
 
-  abbrev Dependents : ℕ → ℕ → Type 0
-  Dependents = IsReached its_dependents entries
+  rolled : (at other : ℕ) → IsReached its_dependents entries at other → IsRolledBack depends history at other
+  rolled at other itself = inl refl
+  rolled at other (further {at = k} {entry = entry} before is here) = then (rolled at k before)
+    where
+      then : IsRolledBack depends history at k → IsRolledBack depends history at other
+      then (inl same) = inr (direct (rw same at ((its_dependent k entry is other).0 here).link))
+      then (inr more) = inr (onward more ((its_dependent k entry is other).0 here).link)
 
-  rolled_onward : (at k other : ℕ) → IsLinked k other → IsRolledBack depends run.history at k → IsRolledBack depends run.history at other
-  rolled_onward at k other link (inl same) = inr (direct (subst (λ it. IsLinked it other) same link))
-  rolled_onward at k other link (inr more) = inr (onward more link)
-
-  dependents_rolled : (at other : ℕ) → Dependents at other → IsRolledBack depends run.history at other
-  dependents_rolled at other itself = inl refl
-  dependents_rolled at other (further {at = k} {entry = entry} before is here) =
-      rolled_onward at k other (is_dependent k other entry is here).link (dependents_rolled at k before)
-
-  joined : (a b c : ℕ) → Dependents a b → Dependents b c → Dependents a c
+  joined : (a b c : ℕ) → IsReached its_dependents entries a b → IsReached its_dependents entries b c → IsReached its_dependents entries a c
   joined a b c one itself = one
   joined a b c one (further {at = k} before is here) = further (joined a b k one before) is here
 
-  led_dependents : (n at other : ℕ) → other ≤ at + n → HasLedTo depends run.history other at → Dependents at other
-  led_dependents n at other few (inl same) = subst (Dependents at) same itself
-  led_dependents zero at other few (inr past) = let earlier = past_earlier run.history other at past in absurd (omega (arith, few, earlier))
-  led_dependents (suc n) at other few (inr past) =
-      let (k, cause, led) = (by_direct_causes depends run.history at other).0 past in
-      let later = cause.link.later in
-      let entry = has_entry at cause.link.cause cause.link.at_cause in
-      joined at k other (further itself entry.1 (has_dependent at k entry.0 entry.1 cause)) (led_dependents n k other (omega (arith, few, later)) led)
+  onto : (at other : ℕ) → HasLedTo depends history other at → IsReached its_dependents entries at other
+  onto at other =
+      by_causes history other (λ it. IsReached its_dependents entries it other) itself
+      (λ i j cause reached.
+      let (entry, is) = has_entry i cause.link.cause cause.link.at_cause in
+      joined i j other (further itself is ((its_dependent i entry is j).1 cause)) reached)
+      at
 
-  rolled_dependents : (at other : ℕ) → IsRolledBack depends run.history at other → Dependents at other
-  rolled_dependents at other (inl same) = subst (Dependents at) (sym same) itself
-  rolled_dependents at other (inr more) = led_dependents other at other (omega arith) (inr ((turned_round depends run.history at other).1 more))
-
-  pub dependents_are_the_consequences : (at other : ℕ) → Dependents at other ↔ IsRolledBack depends run.history at other
-  dependents_are_the_consequences at other = (dependents_rolled at other, rolled_dependents at other)
+  pub dependents_are_the_consequences : (at other : ℕ) → IsReached its_dependents entries at other ↔ IsRolledBack depends history at other
+  dependents_are_the_consequences at other = (rolled at other, λ gone. onto at other (turned gone))
+    where
+      turned : IsRolledBack depends history at other → HasLedTo depends history other at
+      turned (inl same) = inl (sym same)
+      turned (inr more) = inr ((turned_round depends history at other).1 more)

@@ -3,7 +3,7 @@ use Rattle.std.proofs.Common.{◌≡◌, None, Result, Err, refl}
 use Rattle.cdb_draw.specs.Drawn.{IsFaultOfPicture}
 use Rattle.cdb_explain.specs.Explained.{answer_ending}
 use Rattle.cdb_explain.specs.declared.fault.AnswerFault.{AnswerFault}
-use Rattle.cdb_explain.specs.declared.fault.AnswerFault.TheVariants.{NoStep, NoValue, TooManyEvents, NotFound, DoesNotHold, Play}
+use Rattle.cdb_explain.specs.declared.fault.AnswerFault.TheVariants.{TooManyEvents, Play}
 use Rattle.cdb_rules.specs.RunView.{RunView}
 use Rattle.cdb_streams.specs.Endings.{NotBegun}
 use Rattle.cdb_streams.specs.declared.buffer.OutputFault.TheVariants as output
@@ -13,14 +13,6 @@ use Rattle.cdb_page.specs.Written.{IsFaultOfFew}
 -- as for the picture of the whole run, and nothing is written
 pub as_of_picture : (run : RunView) (fault : AnswerFault) → IsFaultOfFew run fault
     → IsFaultOfPicture run None fault × (let result : Result (Unit {0}) AnswerFault = Err fault in answer_ending result ≡ NotBegun)
-as_of_picture run NoStep why = absurd why
-as_of_picture run NoValue why = absurd why
 as_of_picture run TooManyEvents why = ((why, refl), refl)
-as_of_picture run (NotFound walks) why = absurd why
-as_of_picture run DoesNotHold why = absurd why
 as_of_picture run (Play (play.NoMemory refused)) why = ((output.NoMemory refused, refl), refl)
-as_of_picture run (Play play.Read) why = absurd why
-as_of_picture run (Play play.Write) why = absurd why
-as_of_picture run (Play (play.Setup fault)) why = absurd why
-as_of_picture run (Play (play.Line script line fault)) why = absurd why
-as_of_picture run (Play (play.ScriptTooLong script)) why = absurd why
+as_of_picture run fault why = absurd why

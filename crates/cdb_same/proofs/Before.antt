@@ -1,6 +1,7 @@
 -- Which event stands before which, by positions.
-use Rattle.std.proofs.Common.{◌≡◌, ℕ, zero, suc, ◌<◌, List, [], ◌∷◌, Some, refl, sym, subst, arith}
-use Rattle.std.proofs.lemmas.Option.{none-some, same_Some}
+use Rattle.std.proofs.Common.{◌≡◌, ℕ, zero, suc, ◌<◌, List, ◌∷◌, Some, refl, arith}
+use Rattle.std.proofs.lemmas.Grind.{common_steps}
+use Rattle.std.proofs.lemmas.Option.{gets, same_Some}
 use Rattle.cdb_base.specs.Event.{event_name}
 use Rattle.cdb_base.specs.Positions.{nth}
 use Rattle.cdb_base.specs.declared.event.Event.{Event}
@@ -11,13 +12,9 @@ use Rattle.cdb_rules.proofs.NamedEvents.{in_position}
 
 module _ {E : Type 0} where
   pub before_at : (xs : List E) (i j : ℕ) (a b : E) → i < j → nth xs i ≡ Some a → nth xs j ≡ Some b → IsBefore a b xs
-  before_at xs zero j a b less at_i at_j = absurd (none-some a at_i)
-  before_at [] (suc i) j a b less at_i at_j = absurd (none-some a at_i)
-  before_at (x ∷ xs) (suc i) zero a b less at_i at_j = absurd (none-some b at_j)
-  before_at (x ∷ xs) (suc i) (suc zero) a b less at_i at_j = absurd (omega (arith, less))
-  before_at (x ∷ xs) (suc zero) (suc (suc j)) a b less at_i at_j =
-      subst (λ y. IsBefore a b (y ∷ xs)) (sym (same_Some x a at_i)) (here (in_position xs (suc j) b at_j))
-  before_at (x ∷ xs) (suc (suc i)) (suc (suc j)) a b less at_i at_j = there (before_at xs (suc i) (suc j) a b (omega (arith, less)) at_i at_j)
+  before_at (x ∷ xs) (suc zero) (suc (suc j)) a b less at_i at_j = rw (← same_Some x a at_i) (here (in_position xs (suc j) b at_j))
+  before_at (x ∷ xs) (suc (suc i)) (suc (suc j)) a b less at_i at_j = there (before_at xs (suc i) (suc j) a b (omega arith) at_i at_j)
+  before_at xs i j a b less at_i at_j = absurd (grind arith)
 
   -- both stand there, at these positions
   pub record StandApart (xs : List E) (a b : E) : Type 0 where
@@ -31,20 +28,15 @@ module _ {E : Type 0} where
   apart {b = b} (here {rest = rest} i) =
       let found = position_in b rest i in
       record { one = 1; other = suc (suc found.0); order = omega arith; at_one = refl; at_other = found.1 }
-  apart {a = a} {b = b} (there {other = x} {rest = rest} before) = later (apart before)
-    where
-      later : StandApart rest a b → StandApart (x ∷ rest) a b
-      later found = record {
+  apart {a = a} {b = b} (there {other = x} {rest = rest} before) =
+      let found = apart before in
+      record {
         one = suc found.one;
         other = suc found.other;
-        order = (let o = found.order in omega (arith, o));
-        at_one = front found.one found.at_one;
-        at_other = front found.other found.at_other;
+        order = omega arith;
+        at_one = grind (arith, common_steps, gets);
+        at_other = grind (arith, common_steps, gets);
       }
-        where
-          front : {e : E} (k : ℕ) → nth rest k ≡ Some e → nth (x ∷ rest) (suc k) ≡ Some e
-          front {e} zero at = absurd (none-some e at)
-          front (suc k) at = at
 
 module _ (history : List Event) (standing : IsStanding history) where
   -- an event stands at one position
@@ -55,14 +47,11 @@ module _ (history : List Event) (standing : IsStanding history) where
   each_once event before =
       let found = apart before in
       let same = one_position found.one found.other event found.at_one found.at_other in
-      let order = found.order in
-      absurd (omega (arith, same, order))
+      absurd (omega arith)
 
   pub before_then : (a b c : Event) → IsBefore a b history → IsBefore b c history → IsBefore a c history
   before_then a b c first second =
       let one = apart first in
       let two = apart second in
       let same = one_position one.other two.one b one.at_other two.at_one in
-      let less = one.order in
-      let more = two.order in
-      before_at history one.one two.other a c (omega (arith, same, less, more)) one.at_one two.at_other
+      before_at history one.one two.other a c (omega arith) one.at_one two.at_other

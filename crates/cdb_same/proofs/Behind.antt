@@ -1,55 +1,46 @@
 -- Where each event stands behind its direct causes, dependent events stand in the same order.
-use Rattle.std.proofs.Common.{◌≡◌, ℕ, zero, suc, ◌+◌, ◌<◌, ◌≤◌, ⊎_elim, List, Option, None, Some, MatchOption, refl, sym, ap, ◌∙◌, subst, arith}
+use Rattle.std.proofs.Common.{◌≡◌, ◌⊎◌, ℕ, suc, ◌<◌, ◌≤◌, inl, inr, ⊎_elim, List, Option, None, Some, MatchOption}
+use Rattle.std.proofs.Common.{get_or, length, refl, sym, ap, ◌∙◌, subst, arith}
 use Rattle.std.proofs.lemmas.Option.{same_Some}
-use Rattle.std.proofs.lemmas.Bool.{cases_eq, cases_lt}
 use Rattle.cdb_base.specs.Event.{event_name}
 use Rattle.cdb_base.specs.Positions.{nth}
 use Rattle.cdb_base.specs.declared.event.Event.{Event}
 use Rattle.cdb_base.specs.declared.event.Event.TheVariants.{Step, Lost}
 use Rattle.cdb_base.specs.declared.name.StepId.{StepId}
-use Rattle.cdb_causal.proofs.PastLaws.{by_direct_causes}
-use Rattle.cdb_causal.proofs.Walks.{linked_events}
-use Rattle.cdb_causal.specs.Causality.{IsDirectCause, IsLink}
+use Rattle.cdb_causal.proofs.Walks.{link_at, linked_events}
+use Rattle.cdb_causal.specs.Causality.{IsDirectCause}
 use Rattle.cdb_causal.specs.Dependence.{depends}
 use Rattle.cdb_causal.specs.DirectCauses.{AreDirectCauses}
 use Rattle.cdb_causal.specs.Exchange.{IsBefore, KeepsOrder}
-use Rattle.cdb_causal.specs.Past.{IsInPast, one_link, link_before}
+use Rattle.cdb_causal.specs.Past.{one_link}
+use Rattle.cdb_rules.proofs.Flagged.{item_at}
 use Rattle.cdb_rules.proofs.ListMembers.{position_in}
 use Rattle.cdb_rules.proofs.NamedEvents.{in_position}
 use Rattle.cdb_standing.specs.Moves.{IsNamed}
 use Rattle.cdb_same.proofs.Before.{apart, before_at, before_then, one_position}
+use Rattle.cdb_same.proofs.Causes.{by_causes}
 use Rattle.cdb_same.specs.Come.{AreCounts, CausesHaveCome, HasCausesBefore, HasCome, HaveCome, IsCauseToCome, IsNotCome, StandWithin}
 use Rattle.cdb_same.specs.Comparisons.{AreTurned, IsComparable}
 
--- what led to a position stands before it
-earlier : (history : List Event) {j i : ℕ} → IsInPast depends history j i → i < j
-earlier history (one_link link) = link.later
-earlier history (link_before link past) = let less = earlier history past in let later = link.later in omega (arith, less, later)
-
 module _ (history others : List Event) (its : IsComparable others) (direct : (effect : Event) → HasCausesBefore history others effect) where
-  -- the length of the chain is bounded by the first number
-  chained : (n x y : ℕ) → y ≤ x + n → (cause effect : Event) → nth history x ≡ Some cause
-      → nth history y ≡ Some effect → IsInPast depends history y x → IsBefore cause effect others
-  chained zero x y few cause effect at_x at_y past = let less = earlier history past in absurd (omega (arith, few, less))
-  chained (suc n) x y few cause effect at_x at_y past =
-      let through = (by_direct_causes depends history x y).0 past in
-      let k = through.0 in
-      let link = (through.1).link in
-      let one = direct link.effect x k cause through.1 at_x link.at_effect in
-      ⊎_elim
-      (λ same. subst (λ e. IsBefore cause e others)
-      (same_Some link.effect effect (sym link.at_effect ∙ subst (λ (i : ℕ). nth history i ≡ Some effect) (sym same) at_y)) one)
-      (λ more.
-      let later = link.later in
-      before_then others its.standing cause link.effect effect one (chained n k y (omega (arith, few, later)) link.effect effect link.at_effect at_y more))
-      through.2
+  -- the event at a position is the effect, or stands before it
+  abbrev LeadsTo : ℕ → Event → ℕ → Type 0
+  LeadsTo y effect x = (x ≡ y) ⊎ ((cause : Event) → nth history x ≡ Some cause → IsBefore cause effect others)
+
+  behind_cause : (y : ℕ) (effect : Event) → nth history y ≡ Some effect
+      → (i j : ℕ) → IsDirectCause depends history i j → LeadsTo y effect j → LeadsTo y effect i
+  behind_cause y effect at_y i j cause (inl same) = inr (λ event at. direct effect i j event cause at (rw same at_y))
+  behind_cause y effect at_y i j cause (inr before) =
+      let link = cause.link in
+      inr (λ event at. before_then others its.standing event link.effect effect
+      (direct link.effect i j event cause at link.at_effect) (before link.effect link.at_effect))
 
   pub keeps_order : KeepsOrder depends history others
   keeps_order first second linked before =
       let found = apart before in
-      let link : IsLink depends history found.one found.other =
-      record { cause = first; effect = second; later = found.order; at_cause = found.at_one; at_effect = found.at_other; linked = linked } in
-      chained found.other found.one found.other (omega arith) first second found.at_one found.at_other (one_link link)
+      let link = link_at depends history found.one found.other first second found.at_one found.at_other found.order linked in
+      ⊎_elim (λ same. absurd (omega arith)) (λ leads. leads first found.at_one)
+      (by_causes history found.other (LeadsTo found.other second) (inl refl) (behind_cause found.other second found.at_other) found.one (inr (one_link link)))
 
 module _ (history others : List Event) (comparable : IsComparable history) (its : IsComparable others) (within : StandWithin history others)
     (end : ℕ) (effect : Event) (stands : nth others (suc end) ≡ Some effect) (counts : List ℕ) (so_far : AreCounts others end counts) where
@@ -70,23 +61,17 @@ module _ (history others : List Event) (comparable : IsComparable history) (its 
         let cause = Step q l kind in
         let there = position_in cause others (within cause (in_position history x cause at_x)) in
         let later = direct.link.later in
-        let not_here : suc there.0 ≡ suc end → ⊥ =
-        (λ same.
+        let not_here : suc there.0 ≡ suc end → ⊥ = λ same.
         let equal = same_Some cause effect (sym there.1 ∙ subst (λ (i : ℕ). nth others i ≡ Some effect) (sym same) stands) in
         let place = one_position history comparable.standing x y effect (at_x ∙ ap Some equal) at_y in
-        omega (arith, place, later)) in
-        let not_before : suc there.0 ≤ end → ⊥ = (λ few. subst (λ n. HasCome counts n → ⊥) (sym is) not ((so_far (suc there.0) q l kind there.1).1 few)) in
-        let behind : suc end < suc there.0 = after (suc there.0) not_here not_before in
+        omega arith in
+        let not_before : suc there.0 ≤ end → ⊥ = λ few. not (rw (← is) ((so_far (suc there.0) q l kind there.1).1 few)) in
+        let behind : suc end < suc there.0 = grind arith in
         record {
           depend = linked_events depends history x y cause effect at_x at_y direct.link;
           order = before_at history x y cause effect later at_x at_y;
           turned = before_at others (suc end) (suc there.0) effect cause behind stands there.1;
         }
-      where
-        after : (i : ℕ) → (i ≡ suc end → ⊥) → (i ≤ end → ⊥) → suc end < i
-        after i other more =
-            ⊎_elim (λ less. less) (λ few. ⊎_elim (λ same. absurd (other same)) (λ not. absurd (more (omega (arith, few, not)))) (cases_eq i (suc end)))
-            (cases_lt (suc end) i)
 
     -- of a cause that has not come the event is found, and the effect stands before it
     pub turned_by : (name : StepId) → IsCauseToCome history y counts name → (found : Event) → IsNamed history name found → AreTurned history others found effect
@@ -98,6 +83,14 @@ module _ (history others : List Event) (comparable : IsComparable history) (its 
 
         named_found : event_name found ≡ name
         named_found = let n = (is.1).named in ap event_name (same_Some found n.0 (sym is.2 ∙ n.1)) ∙ n.2
+
+-- what is read next of the one history stands in the other too
+pub in_both : {history others items : List Event} {i : ℕ} {event : Event} → items ≡ others → StandWithin others history → i < length items
+    → event ≡ get_or items i event → (nth others (suc i) ≡ Some event) × (k : ℕ) × (nth history (suc k) ≡ Some event)
+in_both {history} {others} {items} {i} {event} same within low is =
+    let at = item_at same i event low is in
+    let there = position_in event history (within event (in_position others (suc i) event at)) in
+    (at, there.0, there.1)
 
 -- what has come of the direct causes, by their list
 pub causes_to_come : (history : List Event) (at : ℕ) (names : List StepId) (counts : List ℕ) → AreDirectCauses history at names → (found : Option StepId)

@@ -1,7 +1,8 @@
 -- The steps that have come, counted by process.
-use Rattle.std.proofs.Common.{◌≡◌, ℕ, zero, suc, ◌<◌, ◌≤◌, ◌↔◌, ⊎_elim, List, [], ◌∷◌, length, slice_set, Some, replicate, refl, sym, ap, ◌∙◌, subst, arith}
+use Rattle.std.proofs.Common.{◌≡◌, ℕ, suc, ◌<◌, ◌≤◌, ◌↔◌, inl, inr, List, length, slice_set, Some, replicate, sym, ap, ◌∙◌, arith}
 use Rattle.std.proofs.lemmas.Bool.{cases_eq}
-use Rattle.std.proofs.lemmas.Option.{none-some, same_Some}
+use Rattle.std.proofs.lemmas.Grind.{common_steps}
+use Rattle.std.proofs.lemmas.Option.{gets}
 use Rattle.cdb_base.specs.Positions.{nth}
 use Rattle.cdb_base.specs.declared.event.Event.{Event}
 use Rattle.cdb_base.specs.declared.event.Event.TheVariants.{Step, Lost}
@@ -17,23 +18,13 @@ process_of (Step p k kind) = p
 process_of (Lost copy) = 0
 
 pub none_counted : (n q : ℕ) → count_of (replicate n 0) q ≡ 0
-none_counted n zero = refl
-none_counted zero (suc i) = refl
-none_counted (suc n) (suc zero) = refl
-none_counted (suc n) (suc (suc i)) = none_counted n (suc i)
+none_counted n q = grind (arith, common_steps, gets)
 
 pub count_set : (counts : List ℕ) (i k : ℕ) → i < length counts → count_of (slice_set counts i k) (suc i) ≡ k
-count_set [] i k less = absurd (omega (arith, less))
-count_set (x ∷ xs) zero k less = refl
-count_set (x ∷ xs) (suc i) k less = count_set xs i k (omega (arith, less))
+count_set counts i k less = grind (arith, common_steps, gets)
 
 pub count_other : (counts : List ℕ) (i k q : ℕ) → (q ≡ suc i → ⊥) → count_of (slice_set counts i k) q ≡ count_of counts q
-count_other counts i k zero other = refl
-count_other [] i k (suc j) other = refl
-count_other (x ∷ xs) zero k (suc zero) other = absurd (other refl)
-count_other (x ∷ xs) zero k (suc (suc j)) other = refl
-count_other (x ∷ xs) (suc i) k (suc zero) other = refl
-count_other (x ∷ xs) (suc i) k (suc (suc j)) other = count_other xs i k (suc j) (λ e. other (ap suc e))
+count_other counts i k q other = grind (arith, common_steps, gets)
 
 module _ (history : List Event) (comparable : IsComparable history) (numbered : AreNumberedUpTo history 9) where
   -- before the first event none has come
@@ -43,37 +34,26 @@ module _ (history : List Event) (comparable : IsComparable history) (numbered : 
       let low = from_one history q (numbered q within.0 within.1) at l kind stands in
       let none = none_counted n q in (
         (λ few. absurd (omega (arith, few, none, low))),
-        (λ first. absurd (none-some (Step q l kind)
-            (subst (λ (i : ℕ). nth history i ≡ Some (Step q l kind)) (let zero_is : at ≡ 0 = omega (arith, first) in zero_is) stands))),
+        (λ first. grind (arith, common_steps, gets)),
       )
 
   module _ (end : ℕ) (event : Event) (stands : nth history (suc end) ≡ Some event) (counts : List ℕ) (so_far : AreCounts history end counts) where
     -- a step at another position, up to one, is at one before
     not_last : (at q l : ℕ) (kind : Kind) → nth history at ≡ Some (Step q l kind) → (event ≡ Step q l kind → ⊥) → (at ≤ end) ↔ (at ≤ suc end)
-    not_last at q l kind its other = (
-      (λ less. omega (arith, less)),
-      (λ less.
-          ⊎_elim
-          (λ same. absurd (other (same_Some event (Step q l kind) (sym stands ∙ subst (λ (i : ℕ). nth history i ≡ Some (Step q l kind)) same its))))
-          (λ before. let not : at ≡ suc end → ⊥ = before in omega (arith, less, not))
-          (cases_eq at (suc end))),
-    )
+    not_last at q l kind its other = let here = stands in grind (arith, common_steps, gets)
 
     pub counts_step : (i p k : ℕ) (kind : Kind) → i < length counts → suc i ≡ p → event ≡ Step p k kind → AreCounts history (suc end) (slice_set counts i k)
     counts_step i p k kind within is same at q l its there =
         let inside = comparable.standing.processes at q l its there in
-        ⊎_elim
-        (λ own.
-        let count : count_of (slice_set counts i k) q ≡ k = ap (count_of (slice_set counts i k)) (own ∙ sym is) ∙ count_set counts i k within in
-        let last : nth history (suc end) ≡ Some (Step q k kind) = stands ∙ ap Some same ∙ ap (λ (r : ℕ). Some (Step r k kind)) (sym own) in
-        let order = in_order history q (numbered q inside.0 inside.1) at (suc end) l k its kind there last in (
-          (λ few. order.0 (omega (arith, few, count))),
-          (λ less. let few = order.1 less in omega (arith, few, count)),
-        ))
-        (λ other.
-        let count = count_other counts i k q (λ e. other (e ∙ is)) in
-        let moved = not_last at q l its there (λ e. other (sym (ap process_of (sym same ∙ e)))) in (
-          (λ few. moved.0 ((so_far at q l its there).0 (omega (arith, few, count)))),
-          (λ less. let few = (so_far at q l its there).1 (moved.1 less) in omega (arith, few, count)),
-        ))
-        (cases_eq q p)
+        elim (cases_eq q p) [
+          | inl own ↦
+              let count = count_set counts i k within in
+              let last : nth history (suc end) ≡ Some (Step q k kind) = cc in
+              let order = in_order history q (numbered q inside.0 inside.1) at (suc end) l k its kind there last in
+              grind arith
+          | inr other ↦
+              let count = count_other counts i k q (λ e. other (e ∙ is)) in
+              let moved = not_last at q l its there (λ e. other (sym (ap process_of (sym same ∙ e)))) in
+              let before = so_far at q l its there in
+              grind arith
+        ]

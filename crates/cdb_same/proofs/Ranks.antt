@@ -1,8 +1,9 @@
 -- The number of a step is its rank among the steps of its process, and the steps that have come are counted by these.
-use Rattle.std.proofs.Common.{◌≡◌, ℕ, zero, suc, ◌<◌, ◌≤◌, ◌↔◌, inl, inr, ⊎_elim, Bool, true, List}
-use Rattle.std.proofs.Common.{[], ◌∷◌, length, take, filter, Some, refl, ap, ◌∙◌, eq-eqb, arith}
-use Rattle.std.proofs.lemmas.Bool.{cases_Bool, cases_lt}
-use Rattle.std.proofs.lemmas.Option.{none-some, same_Some}
+use Rattle.std.proofs.Common.{◌≡◌, ℕ, zero, suc, ◌+◌, ◌<◌, ◌≤◌, ◌↔◌, ⊎_elim, Bool, true, false, cond, List}
+use Rattle.std.proofs.Common.{[], ◌∷◌, length, take, filter, slice_get, Some, refl, ap, eq-eqb, add-one, arith}
+use Rattle.std.proofs.lemmas.Bool.{cases_lt}
+use Rattle.std.proofs.lemmas.List.Filters.{length-filter_more}
+use Rattle.std.proofs.lemmas.Option.{get_or_from_slice_get, none-some, slice_get_within}
 use Rattle.cdb_base.specs.Event.{is_step_of}
 use Rattle.cdb_base.specs.Positions.{nth}
 use Rattle.cdb_base.specs.declared.event.Event.{Event}
@@ -17,49 +18,38 @@ module _ {E : Type 0} (test : E → Bool) where
   abbrev pub rank : List E → ℕ → ℕ
   rank xs at = length (filter test (take at xs))
 
-  nth_behind : (x : E) (xs : List E) (r : ℕ) (e : E) → nth xs r ≡ Some e → nth (x ∷ xs) (suc r) ≡ Some e
-  nth_behind x xs zero e stands = absurd (none-some e stands)
-  nth_behind x xs (suc r) e stands = stands
+  -- the next one is counted where it passes
+  module _ (xs : List E) (i : ℕ) (x : E) (stands : slice_get xs i ≡ Some x) where
+    pub next_counted : rank xs (suc i) ≡ rank xs i + cond (test x) 1 0
+    next_counted =
+        rw (← add-one i, ← get_or_from_slice_get xs i x x stands) (length-filter_more test xs i x (slice_get_within xs i x stands))
+
+    pub next_passes : test x ≡ true → rank xs (suc i) ≡ suc (rank xs i)
+    next_passes passes = let more = rw passes at next_counted in omega (arith, more)
+
+    pub next_fails : test x ≡ false → rank xs (suc i) ≡ rank xs i
+    next_fails fails = let more = rw fails at next_counted in omega (arith, more)
+
+  kept_at : (xs : List E) (i : ℕ) (e : E) → slice_get xs i ≡ Some e → test e ≡ true → slice_get (filter test xs) (rank xs i) ≡ Some e
+  kept_at [] i e stands passes = absurd cc
+  kept_at (x ∷ xs) zero e stands passes = grind arith
+  kept_at (x ∷ xs) (suc i) e stands passes = let again = kept_at xs i e stands passes in grind arith
 
   at_rank : (xs : List E) (at : ℕ) (e : E) → nth xs at ≡ Some e → test e ≡ true → nth (filter test xs) (rank xs at) ≡ Some e
   at_rank xs zero e stands passes = absurd (none-some e stands)
-  at_rank [] (suc i) e stands passes = absurd (none-some e stands)
-  at_rank (x ∷ xs) (suc zero) e stands passes = rw (ap test (same_Some x e stands) ∙ passes) stands
-  at_rank (x ∷ xs) (suc (suc i)) e stands passes =
-      let again = at_rank xs (suc i) e stands passes in
-      elim (cases_Bool (test x)) [
-        | inl is ↦ rw is (nth_behind x (filter test xs) (rank xs (suc i)) e again)
-        | inr is ↦ rw is again
-      ]
+  at_rank xs (suc i) e stands passes = rw (next_passes xs i e stands passes) (kept_at xs i e stands passes)
 
   no_lower : (xs : List E) (i at : ℕ) → i ≤ at → rank xs i ≤ rank xs at
-  no_lower xs zero at less = omega arith
-  no_lower [] (suc i) at less = omega arith
-  no_lower (x ∷ xs) (suc i) zero less = absurd (omega (arith, less))
-  no_lower (x ∷ xs) (suc i) (suc at) less =
-      let again = no_lower xs i at (omega (arith, less)) in
-      elim (cases_Bool (test x)) [
-        | inl is ↦ rw is (omega (arith, again))
-        | inr is ↦ rw is again
-      ]
+  no_lower (x ∷ xs) (suc i) (suc at) less = let again = no_lower xs i at (omega (arith, less)) in grind arith
+  no_lower [] (suc i) (suc at) less = omega arith
+  no_lower xs i at less = grind arith
 
   higher : (xs : List E) (i at : ℕ) (e : E) → i < at → nth xs at ≡ Some e → test e ≡ true → rank xs i < rank xs at
-  higher xs i zero e less stands passes = absurd (none-some e stands)
-  higher [] i (suc j) e less stands passes = absurd (none-some e stands)
-  higher (x ∷ xs) zero (suc zero) e less stands passes = rw (ap test (same_Some x e stands) ∙ passes) (omega arith)
-  higher (x ∷ xs) (suc i) (suc zero) e less stands passes = absurd (omega (arith, less))
-  higher (x ∷ xs) zero (suc (suc j)) e less stands passes =
-      let again = higher xs zero (suc j) e (omega arith) stands passes in
-      elim (cases_Bool (test x)) [
-        | inl is ↦ rw is (omega (arith, again))
-        | inr is ↦ rw is again
-      ]
-  higher (x ∷ xs) (suc i) (suc (suc j)) e less stands passes =
-      let again = higher xs i (suc j) e (omega (arith, less)) stands passes in
-      elim (cases_Bool (test x)) [
-        | inl is ↦ rw is (omega (arith, again))
-        | inr is ↦ rw is again
-      ]
+  higher xs i zero e less stands passes = absurd (omega arith)
+  higher xs i (suc at) e less stands passes =
+      let low = no_lower xs i at (omega (arith, less)) in
+      let next = next_passes xs at e stands passes in
+      omega (arith, low, next)
 
 abbrev number_of : StepId → ℕ
 number_of (named.Step step) = step.k
@@ -76,7 +66,7 @@ module _ (history : List Event) (q : ℕ) (numbered : AreNumbered q history) whe
   pub from_one : (at l : ℕ) (kind : Kind) → nth history at ≡ Some (Step q l kind) → 1 ≤ l
   from_one zero l kind stands = absurd (none-some (Step q l kind) stands)
   from_one (suc i) l kind stands =
-      let more = higher (is_step_of q) history zero (suc i) (Step q l kind) (omega arith) stands (its_own q l kind) in
+      let more = next_passes (is_step_of q) history i (Step q l kind) stands (its_own q l kind) in
       let is = number_is (suc i) l kind stands in
       omega (arith, more, is)
 

@@ -10,8 +10,8 @@ ghost use Rattle.cdb_same.specs.declared.compare.Comparison.{Comparison};
 ghost use Rattle.cdb_same.specs.declared.compare.Comparison.TheVariants.{Same};
 
 /// A comparison says that the histories are the same exactly where exchanges of independent neighbours lead from one
-/// to the
-/// other: so an event that stands in one alone, and two that stand in other orders, say that none do.
+/// to the other: so an event that stands in one alone, and two that stand in other orders, say that none do.
+#[tactic(auto, using(crate::proofs::Apart::same_exactly))]
 pub fn witness_tells_apart()
     ensures { (history other : List Event) → IsStanding other → (found : Comparison) →
         IsComparison history other found → (found ≡ Same) ↔ IsExchanged depends history other }

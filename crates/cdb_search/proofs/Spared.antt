@@ -1,5 +1,5 @@
 -- One pass over commands, from the last to the first.
-use Rattle.std.proofs.Common.{◌≡◌, inl, inr, ℕ, suc, ◌+◌, ◌<◌, ◌≤◌, List, length, sym, subst, arith}
+use Rattle.std.proofs.Common.{◌≡◌, inl, inr, ℕ, ◌+◌, ◌-◌, ◌<◌, ◌≤◌, List, length, sym, subst, arith}
 use Rattle.std.proofs.lemmas.Bool.Decides.{eqb_tells}
 use Rattle.cdb_causal.specs.Rollback.{without}
 use Rattle.cdb_commands.specs.declared.command.Command.{Command}
@@ -26,33 +26,33 @@ module _ (rules : Rules) (setup : Parts) (goal : Goal) (commands : List Command)
     behind = λ all j low high. absurd (omega arith);
   }
 
-  pub spared : (i : ℕ) (lines fewer : List Command) → Tried (suc i) lines → fewer ≡ without lines (suc i) → HoldsAfter rules setup goal fewer → Tried i fewer
-  spared i lines fewer tried same holds =
-      let shorter : length fewer + 1 ≡ length lines = rw same (one_shorter lines i (omega (arith, tried.left))) in
+  pub spared : (i : ℕ) (lines : List Command) → 0 < i → Tried i lines → HoldsAfter rules setup goal (without lines i) → Tried (i - 1) (without lines i)
+  spared i lines low tried holds =
+      let within : i ≤ length lines = tried.left in
+      let shorter = one_shorter lines i low within in
       let most = no_longer tried.some in
-      let some = joined tried.some (without_one lines i (omega (arith, tried.left))) in
       record {
-        some = subst (λ (l : List Command). IsSublist l commands) (sym same) some;
+        some = joined tried.some (without_one lines i low within);
         holds = holds;
-        left = omega (arith, tried.left);
-        behind = λ all j low high. absurd (omega arith);
+        left = omega (arith, within, shorter, low);
+        behind = λ all j low high. absurd (omega (arith, shorter, most, all));
       }
 
-  pub few_left : (i : ℕ) (lines fewer : List Command) → Tried (suc i) lines → fewer ≡ without lines (suc i) → length fewer ≤ length commands
-  few_left i lines fewer tried same =
-      let shorter : length fewer + 1 ≡ length lines = rw same (one_shorter lines i (omega (arith, tried.left))) in
+  pub few_left : (i : ℕ) (lines : List Command) → 0 < i → Tried i lines → length (without lines i) ≤ length commands
+  few_left i lines low tried =
+      let shorter = one_shorter lines i low tried.left in
       let most = no_longer tried.some in
-      omega arith
+      omega (arith, shorter, most)
 
-  pub needed : (i : ℕ) (lines : List Command) → Tried (suc i) lines → (HoldsAfter rules setup goal (without lines (suc i)) → ⊥) → Tried i lines
-  needed i lines tried lost = record {
+  pub needed : (i : ℕ) (lines : List Command) → 0 < i → Tried i lines → (HoldsAfter rules setup goal (without lines i) → ⊥) → Tried (i - 1) lines
+  needed i lines low tried lost = record {
     some = tried.some;
     holds = tried.holds;
     left = omega (arith, tried.left);
-    behind = λ all j low high.
-        elim (eqb_tells j (suc i)) [
+    behind = λ all j above high.
+        elim (eqb_tells j i) [
           | inl same ↦ subst (λ (n : ℕ). HoldsAfter rules setup goal (without lines n) → ⊥) (sym same.1) lost
-          | inr other ↦ tried.behind all j (omega (arith, other.1)) high
+          | inr other ↦ tried.behind all j (omega (arith, low, above, other.1)) high
         ];
   }
 

@@ -24,11 +24,13 @@ module _ {A : Type 0} where
   around (x ∷ xs) zero within = left_out (whole xs)
   around (x ∷ xs) (suc i) within = kept (around xs i (omega arith))
 
-  -- without one of its elements a list is one of its sublists, and shorter by one
-  pub without_one : (xs : List A) (i : ℕ) → i < length xs → IsSublist (without xs (suc i)) xs
-  without_one xs i within = around xs i within
+  -- without one of its elements, by its place from 1, a list is one of its sublists, and shorter by one
+  pub without_one : (xs : List A) (n : ℕ) → 0 < n → n ≤ length xs → IsSublist (without xs n) xs
+  without_one xs zero low within = absurd (omega arith)
+  without_one xs (suc i) low within = around xs i (omega arith)
 
-  pub one_shorter : (xs : List A) (i : ℕ) → i < length xs → length (without xs (suc i)) + 1 ≡ length xs
-  one_shorter [] i within = absurd (omega arith)
-  one_shorter (x ∷ xs) zero within = omega arith
-  one_shorter (x ∷ xs) (suc i) within = let shorter = one_shorter xs i (omega arith) in omega arith
+  pub one_shorter : (xs : List A) (n : ℕ) → 0 < n → n ≤ length xs → length (without xs n) + 1 ≡ length xs
+  one_shorter xs zero low within = absurd (omega arith)
+  one_shorter [] (suc i) low within = absurd (omega arith)
+  one_shorter (x ∷ xs) (suc zero) low within = omega arith
+  one_shorter (x ∷ xs) (suc (suc i)) low within = let shorter = one_shorter xs (suc i) (omega arith) (omega arith) in omega arith

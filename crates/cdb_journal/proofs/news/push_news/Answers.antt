@@ -1,8 +1,7 @@
-use Rattle.std.proofs.Common.{◌≡◌, ℕ, ◌+◌, ◌-◌, List, ◌++◌, drop, length, take, min, ap, ◌∙◌, arith, length-append, length-drop, Vec, Global}
+use Rattle.std.proofs.Common.{◌≡◌, ℕ, ◌+◌, ◌-◌, List, drop, length, take, min, ap, ◌∙◌, arith, length-append, length-drop}
 use Rattle.std.proofs.lemmas.List.{length-take, take_rest}
 use Rattle.cdb_control.specs.Journal.{Journaled}
 use Rattle.cdb_control.specs.declared.control.Entry.{Entry}
-use Rattle.cdb_journal.specs.SeatReplies.{news_lines, seat_replies_in}
 use Rattle.cdb_journal.proofs.NewsLines.{news_listed}
 use Rattle.cdb_journal.proofs.news.push_news.Goals as goal
 
@@ -21,7 +20,4 @@ returns-clause-news g c =
     ∙ ap (λ (rest : List Entry). length first.journal + length rest) (take_rest entries silent) in
     let from : length first.journal ≡ min c.args.from (length last.journal) =
     omega (arith, least, ap length c.journal.ensures.entries, before, all, length-take silent entries, length-drop silent entries, c.requires.from) in
-    ap (λ (v : Vec ℕ Global). v.items) c.into_bytes.ensures.value ∙ c.in_ok-push_each.ensures.text
-    ∙ ap (λ (text : List ℕ). text ++ news_lines c.args.seat (drop (length first.journal) (seat_replies_in rules last))) c.new-text.ensures.bytes
-    ∙ ap (λ (n : ℕ). news_lines c.args.seat (drop n (seat_replies_in rules last))) from
-    ∙ news_listed rules last c.args.seat c.args.from
+    rw (c.into_bytes.ensures.value, c.in_ok-push_each.ensures.text, c.new-text.ensures.bytes, from) (news_listed rules last c.args.seat c.args.from)

@@ -1,8 +1,14 @@
-use Rattle.std.proofs.Common.{refl}
+use Rattle.std.proofs.Common.{List, ℕ, refl}
 use Rattle.std.proofs.lemmas.Result.{err_from_is_err_and}
 use Rattle.cdb_base.specs.Limits.{MAX_SEATS}
+use Rattle.cdb_control.specs.declared.control.Entry.{Entry}
+use Rattle.cdb_rules.specs.Rules.{Rules}
+use Rattle.cdb_setup.specs.Format.{Encodes}
+use Rattle.cdb_setup.specs.Parts.{Parts}
 use Rattle.cdb_streams.specs.Endings.{Complete}
+use Rattle.cdb_streams.specs.Streams.{Stream}
 use Rattle.cdb_streams.proofs.StreamEnds.{only_as}
+use Rattle.cdb_journal.specs.Journals.{GivesEntries}
 use Rattle.cdb_journal.specs.Replays.{Replays}
 use Rattle.cdb_journal.specs.SeatReplies.{seat_replies_along, seat_replies_text}
 use Rattle.cdb_journal.proofs.RepliesToSeats.{read_seats, read_few, replay_wrote}
@@ -18,28 +24,27 @@ write_replies-requires-clause-room g c =
     let given = c.in_ok-entries.ensures.entries in
     rw c.as_slice.ensures.value (read_few c.in_ok-entries.entries.items given.0 given.2)
 
+replay_of : (rules : Parts → Rules) (json : List ℕ) (setup : Parts) (entries : List Entry) (old new : Stream) → Encodes json setup
+    → GivesEntries old new entries → Replays rules json old new (seat_replies_text (seat_replies_along (rules setup) setup MAX_SEATS entries))
+replay_of rules json setup entries old new encodes given =
+    (given.0, given.1, record { setup = setup; entries = entries; encodes = encodes; lines = given.2; is = refl })
+
 pub returns-in_err-write_replies-clause-wrote : goal.returns-in_err-write_replies-clause-wrote
 returns-in_err-write_replies-clause-wrote g c =
     let p = err_from_is_err_and c.from_residual-in_err-write_replies.result c.from_residual-in_err-write_replies.ensures.1 in
-    let given = c.in_ok-entries.ensures.entries in
-    let setup = c.in_ok-setup.setup in
-    let entries = c.in_ok-entries.entries.items in
-    let rules_of = g.T.Runs.rules in
-    let text = seat_replies_text (seat_replies_along (rules_of setup) setup MAX_SEATS entries) in
-    let is : Replays rules_of c.args.setup.now (g.R.Source.stream c.args.journal.now) (g.R.Source.stream c.read_entries.new.journal) text =
-    (given.0, given.1, record { setup = setup; entries = entries; encodes = c.in_ok-setup.ensures.found; lines = given.2; is = refl }) in
+    let old = g.R.Source.stream c.args.journal.now in
+    let new = g.R.Source.stream c.read_entries.new.journal in
     rw (p.1, p.2)
-    (replay_wrote g.W.Sink.stream (Unit {0}) _ c.in_err-write_replies.field-0.0 c.args.out.now c.write_replies.new.out text is
+    (replay_wrote g.W.Sink.stream (Unit {0}) _ c.in_err-write_replies.field-0.0 c.args.out.now c.write_replies.new.out _
+    (replay_of g.T.Runs.rules c.args.setup.now c.in_ok-setup.setup c.in_ok-entries.entries.items old new
+    c.in_ok-setup.ensures.found c.in_ok-entries.ensures.entries)
     (rw c.as_slice.ensures.value at c.in_err-write_replies.ensures))
 
 pub returns-clause-wrote : goal.returns-clause-wrote
 returns-clause-wrote g c =
-    let given = c.in_ok-entries.ensures.entries in
-    let setup = c.in_ok-setup.setup in
-    let entries = c.in_ok-entries.entries.items in
-    let rules_of = g.T.Runs.rules in
-    let text = seat_replies_text (seat_replies_along (rules_of setup) setup MAX_SEATS entries) in
-    let is : Replays rules_of c.args.setup.now (g.R.Source.stream c.args.journal.now) (g.R.Source.stream c.read_entries.new.journal) text =
-    (given.0, given.1, record { setup = setup; entries = entries; encodes = c.in_ok-setup.ensures.found; lines = given.2; is = refl }) in
-    only_as g.W.Sink.stream Complete c.args.out.now c.write_replies.new.out text _ is
+    let old = g.R.Source.stream c.args.journal.now in
+    let new = g.R.Source.stream c.read_entries.new.journal in
+    only_as g.W.Sink.stream Complete c.args.out.now c.write_replies.new.out _ _
+    (replay_of g.T.Runs.rules c.args.setup.now c.in_ok-setup.setup c.in_ok-entries.entries.items old new
+    c.in_ok-setup.ensures.found c.in_ok-entries.ensures.entries)
     (rw c.as_slice.ensures.value at c.in_ok-write_replies.ensures)

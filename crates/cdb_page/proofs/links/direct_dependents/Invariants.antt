@@ -1,9 +1,7 @@
-use Rattle.std.proofs.Common.{ℕ, List}
-use Rattle.std.specs.List.{range_with_len}
 use Rattle.cdb_causal.specs.Causality.{IsDirectCause}
 use Rattle.cdb_causal.specs.Dependence.{depends}
-use Rattle.cdb_causal.specs.Rollback.{IsParted}
+use Rattle.cdb_page.specs.Listed.{AreFirst}
 use Rattle.cdb_page.proofs.links.direct_dependents.Given as goal
 
 abbrev pub invariant-loop-i : goal.invariant-loop-i
-invariant-loop-i l = (others : List ℕ) × IsParted (λ other. IsDirectCause depends l.events l.at other) 1 (range_with_len 1 l.i) others l.found.items
+invariant-loop-i l = AreFirst (λ other. IsDirectCause depends l.events l.at other) l.i l.found.items

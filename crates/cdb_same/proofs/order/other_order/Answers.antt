@@ -1,12 +1,11 @@
 use Rattle.std.proofs.Common.{◌≡◌, ℕ, suc, ◌+◌, length, refl, sym, ap, subst, ◌∙◌, below_more, arith}
 use Rattle.std.proofs.lemmas.Option.{same_Some, slice_get_within}
 use Rattle.cdb_base.specs.declared.event.Event.{Event}
-use Rattle.cdb_rules.proofs.Flagged.{item_at}
 use Rattle.cdb_rules.proofs.ListMembers.{position_in}
 use Rattle.cdb_rules.proofs.NamedEvents.{in_position}
-use Rattle.cdb_same.proofs.Behind.{behind_causes, keeps_order, turned_by}
+use Rattle.cdb_same.proofs.Behind.{behind_causes, in_both, keeps_order, turned_by}
 use Rattle.cdb_same.proofs.Counted.{counts_first}
-use Rattle.cdb_same.specs.Come.{AreCounts, HasCausesBefore}
+use Rattle.cdb_same.specs.Come.{HasCausesBefore}
 use Rattle.cdb_same.proofs.order.other_order.Goals as goal
 
 pub loop-event-init : goal.loop-event-init
@@ -17,40 +16,33 @@ loop-event-init c = record {
 
 pub cause_to_come-requires : goal.cause_to_come-requires
 cause_to_come-requires c =
-    let event : Event = c.event-item.result in
-    let at = item_at c.requires.others c.loop-event.event-index event c.loop-event-test.true c.event-item.is in
-    let there = position_in event c.args.first.now (c.requires.back event (in_position c.args.second.now (suc c.loop-event.event-index) event at)) in
-    (suc there.0, (event, there.1, refl))
+    let (at, k, there) = in_both c.requires.others c.requires.back c.loop-event-test.true c.event-item.is in
+    (suc k, (c.event-item.result, there, refl))
 
 pub returns-in_err-find : goal.returns-in_err-find
 returns-in_err-find c =
-    let event : Event = c.event-item.result in
-    let at = item_at c.requires.others c.loop-event.event-index event c.loop-event-test.true c.event-item.is in
-    let there = position_in event c.args.first.now (c.requires.back event (in_position c.args.second.now (suc c.loop-event.event-index) event at)) in
-    let cause = c.in-Some.ensures (suc there.0) there.1 in
+    let (at, k, there) = in_both c.requires.others c.requires.back c.loop-event-test.true c.event-item.is in
+    let cause = c.in-Some.ensures (suc k) there in
     absurd (c.in_err-find.ensures (cause.0).0 (cause.0).2)
 
 pub returns-in-Some : goal.returns-in-Some
 returns-in-Some c =
-    let event : Event = c.event-item.result in
-    let i : ℕ = c.loop-event.event-index in
-    let at = item_at c.requires.others i event c.loop-event-test.true c.event-item.is in
-    let there = position_in event c.args.first.now (c.requires.back event (in_position c.args.second.now (suc i) event at)) in
+    let (at, k, there) = in_both c.requires.others c.requires.back c.loop-event-test.true c.event-item.is in
     turned_by c.args.first.now c.args.second.now c.requires.first c.requires.second c.requires.within
-    i event at c.loop-event.counts c.loop-event.invariant.counts (suc there.0) there.1
-    c.in-Some.name (c.in-Some.ensures (suc there.0) there.1) c.in_ok-find.field-0 c.in_ok-find.ensures
+    c.loop-event.event-index c.event-item.result at c.loop-event.counts c.loop-event.invariant.counts (suc k) there
+    c.in-Some.name (c.in-Some.ensures (suc k) there) c.in_ok-find.field-0 c.in_ok-find.ensures
 
 pub loop-event-preserved : goal.loop-event-preserved
 loop-event-preserved c =
     let event : Event = c.event-item.result in
     let i : ℕ = c.loop-event.event-index in
-    let at = item_at c.requires.others i event c.loop-event-test.true c.event-item.is in
+    let (at, k, there) = in_both c.requires.others c.requires.back c.loop-event-test.true c.event-item.is in
     let more : suc i ≡ i + 1 = omega arith in
     let behind =
     behind_causes c.args.first.now c.args.second.now c.requires.first c.requires.second c.requires.within
     i event at c.loop-event.counts c.loop-event.invariant.counts c.in_default.ensures in
     record {
-      counts = subst (λ (n : ℕ). AreCounts c.args.second.now n c.count.new.counts) more (c.count.ensures i at c.loop-event.invariant.counts);
+      counts = rw more at (c.count.ensures i at c.loop-event.invariant.counts);
       behind =
           below_more _ _ c.loop-event.invariant.behind
           (λ effect stands. subst (HasCausesBefore c.args.first.now c.args.second.now) (same_Some event effect (sym at ∙ stands)) behind);

@@ -1,7 +1,6 @@
-use Rattle.std.proofs.Common.{◌≡◌, ◌-◌, ◌+◌, ◌∙◌, ℕ, suc, sym, subst, arith}
+use Rattle.std.proofs.Common.{◌≡◌, ◌-◌, ◌+◌, ◌∙◌, arith}
 use Rattle.cdb_causal.specs.Rollback.{without}
-use Rattle.cdb_search.proofs.Spared.{Tried, all_tried, few_left, needed, none_tried, spared}
-use Rattle.cdb_search.specs.Shrunk.{HoldsAfter}
+use Rattle.cdb_search.proofs.Spared.{all_tried, few_left, needed, none_tried, spared}
 use Rattle.cdb_search.proofs.sparing.pass.Goals as goal
 
 pub loop-i-init : goal.loop-i-init
@@ -12,41 +11,34 @@ loop-i-init g c =
 pub holds_after-requires : goal.holds_after-requires
 holds_after-requires g c =
     let rules = g.T.Runs.rules c.args.setup.now in
-    let i : ℕ = c.loop-i.i - 1 in
-    let next : c.loop-i.i ≡ suc i = omega arith in
-    let same_next : i + 1 ≡ suc i = omega arith in
+    let i = c.loop-i.i in
     let lines = c.loop-i.lines.items in
-    let tried = subst (λ (n : ℕ). Tried rules c.args.setup.now c.args.goal c.args.commands.now n lines) next c.loop-i.invariant in
-    let fewer : c.in_ok-fewer.fewer.items ≡ without lines (suc i) = rw (c.as_slice.ensures.value, same_next) at c.in_ok-fewer.ensures in
-    let few = few_left rules c.args.setup.now c.args.goal c.args.commands.now i lines c.in_ok-fewer.fewer.items tried fewer in
-    rw c.as_slice-in-loop-i.ensures.value (omega (arith, few, c.requires.few))
+    let same : i - 1 + 1 ≡ i = omega arith in
+    let fewer : c.in_ok-fewer.fewer.items ≡ without lines i = rw (c.as_slice.ensures.value, same) at c.in_ok-fewer.ensures in
+    let few = few_left rules c.args.setup.now c.args.goal c.args.commands.now i lines (omega arith) c.loop-i.invariant in
+    rw (c.as_slice-in-loop-i.ensures.value, fewer) (omega (arith, few, c.requires.few))
 
 pub loop-i-preserved-then-branch : goal.loop-i-preserved-then-branch
 loop-i-preserved-then-branch g c =
     let rules = g.T.Runs.rules c.args.setup.now in
-    let i : ℕ = c.loop-i.i - 1 in
-    let next : c.loop-i.i ≡ suc i = omega arith in
-    let same_next : i + 1 ≡ suc i = omega arith in
+    let i = c.loop-i.i in
     let lines = c.loop-i.lines.items in
-    let tried = subst (λ (n : ℕ). Tried rules c.args.setup.now c.args.goal c.args.commands.now n lines) next c.loop-i.invariant in
-    let fewer : c.in_ok-fewer.fewer.items ≡ without lines (suc i) = rw (c.as_slice.ensures.value, same_next) at c.in_ok-fewer.ensures in
-    let holds : HoldsAfter rules c.args.setup.now c.args.goal c.in_ok-fewer.fewer.items =
-    rw c.as_slice-in-loop-i.ensures.value at (c.in_ok-holds_after.ensures.0 c.if-branch.true) in
-    spared rules c.args.setup.now c.args.goal c.args.commands.now i lines c.in_ok-fewer.fewer.items tried fewer holds
+    let same : i - 1 + 1 ≡ i = omega arith in
+    let fewer : c.in_ok-fewer.fewer.items ≡ without lines i = rw (c.as_slice.ensures.value, same) at c.in_ok-fewer.ensures in
+    let holds = c.in_ok-holds_after.ensures.0 c.if-branch.true in
+    rw fewer (spared rules c.args.setup.now c.args.goal c.args.commands.now i lines (omega arith) c.loop-i.invariant
+    (rw (c.as_slice-in-loop-i.ensures.value, fewer) at holds))
 
 pub loop-i-preserved : goal.loop-i-preserved
 loop-i-preserved g c =
     let rules = g.T.Runs.rules c.args.setup.now in
-    let i : ℕ = c.loop-i.i - 1 in
-    let next : c.loop-i.i ≡ suc i = omega arith in
-    let same_next : i + 1 ≡ suc i = omega arith in
+    let i = c.loop-i.i in
     let lines = c.loop-i.lines.items in
-    let tried = subst (λ (n : ℕ). Tried rules c.args.setup.now c.args.goal c.args.commands.now n lines) next c.loop-i.invariant in
-    let fewer : c.as_slice-in-loop-i.result.now ≡ without lines (suc i) =
-    c.as_slice-in-loop-i.ensures.value ∙ (rw (c.as_slice.ensures.value, same_next) at c.in_ok-fewer.ensures) in
-    needed rules c.args.setup.now c.args.goal c.args.commands.now i lines tried
-    (λ holds.
-    let yes = c.in_ok-holds_after.ensures.1 (subst (HoldsAfter rules c.args.setup.now c.args.goal) (sym fewer) holds) in let no = c.if-branch.false in cc)
+    let same : i - 1 + 1 ≡ i = omega arith in
+    let fewer : c.as_slice-in-loop-i.result.now ≡ without lines i =
+    c.as_slice-in-loop-i.ensures.value ∙ (rw (c.as_slice.ensures.value, same) at c.in_ok-fewer.ensures) in
+    needed rules c.args.setup.now c.args.goal c.args.commands.now i lines (omega arith) c.loop-i.invariant
+    (λ holds. let yes = c.in_ok-holds_after.ensures.1 (rw fewer holds) in let no = c.if-branch.false in cc)
 
 pub returns : goal.returns
 returns g c =
