@@ -2,6 +2,8 @@
 use Rattle.std.proofs.Common.{◌≡◌, ◌≢◌, ℕ, zero, suc, ◌+◌, ◌*◌, ◌<◌, ◌≤◌, ◌==◌, Bool, true, false, cond, List}
 use Rattle.std.proofs.Common.{[], ◌∷◌, length, map, sum, get_or, refl, ap, ◌∙◌, arith, length-take}
 use Rattle.std.proofs.lemmas.Bool.Decides.{nat_tests}
+use Rattle.std.proofs.lemmas.Grind.{common_steps}
+use Rattle.std.proofs.lemmas.Option.{gets}
 use Rattle.std.proofs.lemmas.List.{length-replicate}
 use Rattle.std.proofs.lemmas.List.Sums.{sum_by-cons}
 use Rattle.cdb_control.specs.Journal.{Journaled, own, AreOfSeats}
@@ -17,12 +19,10 @@ of_first zero es = 0
 of_first (suc n) es = of_first n es + length (own (suc n) es)
 
 longer_by : (b : Bool) (x : Command) (xs : List Command) → length xs ≤ length (cond b (x ∷ xs) xs)
-longer_by true x xs = omega arith
-longer_by false x xs = omega arith
+longer_by b x xs = grind (arith, common_steps, gets)
 
 longer_if : (b : Bool) (x : Command) (xs : List Command) → b ≡ true → length (cond b (x ∷ xs) xs) ≡ suc (length xs)
-longer_if true x xs is = refl
-longer_if false x xs is = absurd (cc)
+longer_if b x xs is = grind (arith, common_steps, gets)
 
 no_less : (n : ℕ) (e : Entry) (es : List Entry) → of_first n es ≤ of_first n (e ∷ es)
 no_less zero e es = omega arith

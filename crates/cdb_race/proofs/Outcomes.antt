@@ -1,7 +1,7 @@
 -- What the final journal has of the seats of a race, and what a race has done when it ended.
 use Rattle.std.proofs.lemmas.Grind.{common_steps}
 use Rattle.std.proofs.lemmas.Option.{gets}
-use Rattle.std.proofs.Common.{◌≡◌, ℕ, ◌+◌, ◌-◌, ◌<◌, ◌≤◌, List, [], ◌∷◌, All, Some, Result, Err, length, map, reverse, replicate, take, get_or, refl}
+use Rattle.std.proofs.Common.{◌≡◌, ℕ, ◌+◌, ◌-◌, ◌<◌, ◌≤◌, Bool, List, [], ◌∷◌, All, Option, Some, length, map, reverse, replicate, take, get_or, refl}
 use Rattle.std.proofs.Common.{sym, ap, ◌∙◌, subst, arith, length-append}
 use Rattle.std.proofs.lemmas.List.{length-map, length-reverse}
 use Rattle.atomic_table.specs.Seated.{TableId}
@@ -12,36 +12,31 @@ use Rattle.cdb_control.specs.Journal.{Journaled, opened, own, replies_of, AreOfS
 use Rattle.cdb_commands.specs.declared.command.Command.{Command}
 use Rattle.cdb_commands.specs.declared.command.Command.TheVariants.{Auto}
 use Rattle.cdb_race.specs.Faults.{fault_at, AreWell}
+use Rattle.cdb_race.specs.LastFault.{IsLastFault}
 use Rattle.cdb_race.specs.Plans.{seats_of}
 use Rattle.cdb_race.specs.Promises.{HasRan, IsReady}
-use Rattle.cdb_race.specs.Races.{AllRan, AreRepliesOf, AreSeatsOf, IsRaced, IsUnderWay, replies_in}
+use Rattle.cdb_race.specs.Races.{AreRepliesOf, AreSeatsOf, FillsJournal, HaveRan, IsRaced, IsUnderWay, replies_in}
 use Rattle.cdb_race.specs.Runs.{HasFinished, IsDrivenOut}
 use Rattle.cdb_race.specs.declared.plan.Plan.{Plan}
-use Rattle.cdb_race.specs.declared.threads.ThreadFault.{ThreadFault}
 use Rattle.cdb_race.specs.declared.threads.ThreadFault.TheVariants as fault
 use Rattle.cdb_race.specs.declared.worker.Ran.{Ran}
 use Rattle.cdb_race.proofs.Collected.{taken_at}
 use Rattle.cdb_race.proofs.Finishes.{ends_well, finished}
 use Rattle.cdb_rules.specs.Rules.{Rules}
 use Rattle.cdb_setup.specs.Parts.{Parts}
+use Rattle.cdb_shared.specs.Gates.{GateCall}
 use Rattle.cdb_shared.specs.Seats.{SeatView, AreFresh, RestsAt, IsKnownBy, fresh_seat}
 use Rattle.cdb_shared.specs.Sessions.{calls_of, replies_to}
 use Rattle.cdb_shared.specs.declared.session.End.{End}
 use Rattle.cdb_shared.specs.declared.session.End.TheVariants.{JournalFull}
 
--- equal answers have equal faults
-pub same_fault : {A : Type 0} (x y : Result A ThreadFault) (a b : ThreadFault) → x ≡ Err a → y ≡ Err b → x ≡ y → a ≡ b
-same_fault x y a b left right same = cc
-
 -- a full journal is the fault of a seat that met one
-pub met_full : (seat : ℕ) (end : End) → fault_at seat end ≡ Some fault.JournalFull → end ≡ JournalFull
+met_full : (seat : ℕ) (end : End) → fault_at seat end ≡ Some fault.JournalFull → end ≡ JournalFull
 met_full seat end has = grind (arith, common_steps, gets)
 
-pub all_ready : (shared : TableId) (plan : Plan) (setup : Parts) (seats : List SeatView)
+pub all_ready : {shared : TableId} {plan : Plan} {setup : Parts} {seats : List SeatView}
     → AreFresh shared setup (seats_of plan) seats → All (λ seat. IsReady shared plan seat) seats
-all_ready shared plan setup seats new k d low =
-    let below : k < seats_of plan = omega (arith, new.many) in
-    subst (λ (s : SeatView). IsReady shared plan s) (sym (new.each k d below)) (record { rests = (refl, refl); new = refl; planned = omega arith })
+all_ready new k d low = rw (new.each k d (omega (arith, new.many))) (record { rests = (refl, refl); new = refl; planned = omega (arith, new.many) })
 
 pub some_of : {T : Type 0} (rans : List (Ran T)) → 0 < length rans → Ran T
 some_of [] low = absurd (omega arith)
@@ -57,8 +52,19 @@ replies_known_now rules c seat n is known =
     (λ i. replies_of (rules (known.setup i)) (known.setup i) (known.seats i) (sym is i) c.journal)
     ∙ replies_of-same (rules seat.setup) seat.setup seat.seats seat.number seat.seen c.journal known.begins known.calls
 
-module _ {T : Type 0} (rules : Parts → Rules) (shared : TableId) (plan : Plan) (setup : Parts) (before : List SeatView) (rans : List (Ran T))
-    (new : AreFresh shared setup (seats_of plan) before) (many : length rans ≡ seats_of plan) (all : AllRan rules plan before rans) where
+-- the final control of these seats
+pub record IsFinal (setup : Parts) (plan : Plan) (seats : List SeatView) (c : Journaled) : Type 0 where
+  pub same : plan.processes ≡ setup.processes
+  pub some : 1 ≤ setup.processes
+  pub known : All (λ seat. IsKnownBy c seat) seats
+  pub entries : AreOfSeats c.seats c.journal
+
+module _ {T G : Type 0} {rules : Parts → Rules} {gate_calls : G → Option (List GateCall)} {passes : G → Bool} {gates : List G}
+    {shared : TableId} {plan : Plan} {setup : Parts} {before : List SeatView} {rans : List (Ran T)}
+    (new : AreFresh shared setup (seats_of plan) before) (all : HaveRan rules gate_calls passes plan gates before rans) where
+  pub many : length rans ≡ seats_of plan
+  many = all.many ∙ new.many
+
   -- what the seat at this position has done
   pub has_ran : (k : ℕ) (ran : Ran T) → k < seats_of plan
       → HasRan rules plan (fresh_seat shared (opened setup (seats_of plan)) (1 + k)) (get_or rans (seats_of plan - 1 - k) ran)
@@ -66,9 +72,9 @@ module _ {T : Type 0} (rules : Parts → Rules) (shared : TableId) (plan : Plan)
       let none = fresh_seat shared (opened setup 0) 0 in
       let position : length before - 1 - (seats_of plan - 1 - k) ≡ k = omega (arith, new.many, low) in
       subst (λ (b : SeatView). HasRan rules plan b (get_or rans (seats_of plan - 1 - k) ran)) (ap (λ i. get_or before i none) position ∙ new.each k none low)
-      (all (seats_of plan - 1 - k) ran (omega (arith, many, low)) none)
+      (all.ran (seats_of plan - 1 - k) ran (omega (arith, many, low)) none)
 
-  module _ (seats : List SeatView) (gathered : AreSeatsOf seats rans) where
+  module _ {seats : List SeatView} (gathered : AreSeatsOf seats rans) where
     among : length seats ≡ seats_of plan
     among = ap length gathered ∙ length-map (reverse rans) _ ∙ length-reverse rans ∙ many
 
@@ -79,15 +85,17 @@ module _ {T : Type 0} (rules : Parts → Rules) (shared : TableId) (plan : Plan)
         subst (RestsAt shared) (sym (taken_at (λ (r : Ran T). r.seat) rans (seats_of plan) k nobody d gathered many (omega (arith, low, among))))
         (later.home, later.rests)
 
-    module _ (nobody : Ran T) (c : Journaled) (same : plan.processes ≡ setup.processes) (known : All (λ seat. IsKnownBy c seat) seats)
-        (some : 1 ≤ setup.processes) (entries : AreOfSeats c.seats c.journal) where
+    module _ (nobody : Ran T) {c : Journaled} (final : IsFinal setup plan seats c) where
+      same : plan.processes ≡ setup.processes
+      same = final.same
+
       abbrev ran_at : ℕ → Ran T
       ran_at k = get_or rans (seats_of plan - 1 - k) nobody
 
       knows : (k : ℕ) → k < seats_of plan → IsKnownBy c (ran_at k).seat
       knows k low =
           subst (IsKnownBy c) (taken_at (λ (r : Ran T). r.seat) rans (seats_of plan) k nobody nobody.seat gathered many low)
-          (known k nobody.seat (omega (arith, low, among)))
+          (final.known k nobody.seat (omega (arith, low, among)))
 
       own_at : (k n : ℕ) → k < seats_of plan → n ≡ 1 + k → ((ran_at k).seat.number ≡ n) × (own n c.journal ≡ calls_of (ran_at k).seat)
       own_at k n low is =
@@ -98,21 +106,21 @@ module _ {T : Type 0} (rules : Parts → Rules) (shared : TableId) (plan : Plan)
       replies_at k n low is = replies_known_now rules c (ran_at k).seat n (own_at k n low is).0 (knows k low)
 
       setup_is : c.setup ≡ setup
-      setup_is = let low : 0 < seats_of plan = omega (arith, some, same) in (knows 0 low).setup ∙ (has_ran 0 nobody low).later.setup
+      setup_is = let low : 0 < seats_of plan = omega (arith, final.some, same) in (knows 0 low).setup ∙ (has_ran 0 nobody low).later.setup
 
       seats_are : c.seats ≡ seats_of plan
-      seats_are = let low : 0 < seats_of plan = omega (arith, some, same) in (knows 0 low).seats ∙ (has_ran 0 nobody low).later.seats
+      seats_are = let low : 0 < seats_of plan = omega (arith, final.some, same) in (knows 0 low).seats ∙ (has_ran 0 nobody low).later.seats
 
       -- the script of a seat
       script_at : (k : ℕ) → get_or plan.scripts.now (1 + (plan.processes + k) - plan.processes - 1) [] ≡ get_or plan.scripts.now k []
       script_at k = let its : 1 + (plan.processes + k) - plan.processes - 1 ≡ k = omega arith in ap (λ n. get_or plan.scripts.now n []) its
 
       -- a race that a fault ended
-      pub under_way : IsUnderWay setup plan.turns plan.scripts.now c
+      under_way : IsUnderWay setup plan.turns plan.scripts.now c
       under_way = record {
         setup_is = setup_is;
         seats_are = seats_are ∙ ap (λ n. n + length plan.scripts.now) same;
-        entries = entries;
+        entries = final.entries;
         driven = λ p from to.
             let low : p - 1 < seats_of plan = omega (arith, from, to, same) in
             let mine = own_at (p - 1) p low (omega (arith, from)) in
@@ -128,7 +136,7 @@ module _ {T : Type 0} (rules : Parts → Rules) (shared : TableId) (plan : Plan)
       }
 
       -- the journal that a seat saw is no longer than the final one
-      pub full_at : (position : ℕ) → position < length rans → (get_or rans position nobody).end ≡ JournalFull
+      full_at : (position : ℕ) → position < length rans → (get_or rans position nobody).end ≡ JournalFull
           → length c.journal ≤ MAX_ENTRIES → length c.journal ≡ MAX_ENTRIES
       full_at position low is few =
           let k = seats_of plan - 1 - position in
@@ -151,7 +159,7 @@ module _ {T : Type 0} (rules : Parts → Rules) (shared : TableId) (plan : Plan)
           record {
             setup_is = setup_is;
             seats_are = seats_are ∙ ap (λ n. n + length plan.scripts.now) same;
-            entries = entries;
+            entries = final.entries;
             driven = λ p from to.
                 let low : p - 1 < seats_of plan = omega (arith, from, to, same) in
                 let is : p ≡ 1 + (p - 1) = omega (arith, from) in
@@ -172,3 +180,10 @@ module _ {T : Type 0} (rules : Parts → Rules) (shared : TableId) (plan : Plan)
                 ∙ sym (replies_at (plan.processes + k) (setup.processes + k + 1) low (omega (arith, same))
                 ∙ ((finished_at (plan.processes + k) low).served (omega arith)).1);
           }
+
+    -- a session that met a full journal has seen one that the race has filled
+    pub filled : {c : Journaled} → IsFinal setup plan seats c → length c.journal ≤ MAX_ENTRIES → IsLastFault fault.JournalFull rans
+        → FillsJournal setup plan.turns plan.scripts.now
+    filled {c} final few last =
+        let met = ap (λ (r : Ran T). r.end) last.at ∙ met_full last.its.seat.number last.its.end last.has in
+        (c, under_way last.its final, full_at last.its final last.position last.within met few)

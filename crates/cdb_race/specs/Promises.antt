@@ -1,7 +1,5 @@
 -- What a started thread promises, and what it hands back.
-use Rattle.std.specs.Prelude.{◌≡◌, ◌≢◌, ℕ, ◌-◌, ◌<◌, Bool, true, List, Option}
-use Rattle.std.specs.Prelude.{map, slice_index_or, Vec, vec_len, ◌≤◌, []}
-use Rattle.std.specs.Global.{Global}
+use Rattle.std.specs.Prelude.{◌≡◌, ◌≢◌, ◌≤◌, Bool, true, List, [], All, Option, map, reverse}
 use Rattle.std.specs.declared.thread.PromisedHandle.{PromisedHandle}
 use Rattle.cdb_commands.specs.ReplyView.{reply_view}
 use Rattle.cdb_race.specs.Runs.{HasRun}
@@ -24,13 +22,12 @@ pub record IsPromise {T G : Type 0} (plan : Plan) (seat : SeatView)
   pub seat_is : promise.seat.value ≡ seat
   pub gate_is : promise.gate.value ≡ gate
 
--- each handle promises that of a seat and its gate, the last seat's first
-abbrev pub ArePromises : {T G : Type 0} → Plan → Vec SeatView Global → Vec G Global
-    → Vec (PromisedHandle (Ran T) (SeatPromise T G)) Global → Type 0
-ArePromises {T} {G} plan seats gates handles =
-    (k : ℕ) (before : SeatView) (gate : G) (handle : PromisedHandle (Ran T) (SeatPromise T G)) → k < vec_len seats
-    → IsPromise plan (slice_index_or seats.items (vec_len seats - 1 - k) before)
-    (slice_index_or gates.items (vec_len gates - 1 - k) gate) (slice_index_or handles.items k handle).promise
+-- each of the handles promises that of a seat and its gate, the last seat's first
+pub record ArePromised {T G : Type 0} (plan : Plan) (seats : List SeatView) (gates : List G)
+    (handles : List (PromisedHandle (Ran T) (SeatPromise T G))) : Type 0 where
+  pub plan_is : All (λ handle. handle.promise.plan ≡ plan) handles
+  pub seats_are : map (λ handle. handle.promise.seat.value) handles ≡ reverse seats
+  pub gates_are : map (λ handle. handle.promise.gate.value) handles ≡ reverse gates
 
 -- what the seat's thread hands back says what the seat has done
 abbrev pub HasRan : {T : Type 0} → (Parts → Rules) → Plan → SeatView → Ran T → Type 0

@@ -38,6 +38,13 @@ AllEnded {T} {G} gate_calls passes gates seats rans =
     HasEndedAtGate gate_calls passes (slice_index_or gates (length gates - 1 - k) gate)
     (slice_index_or seats (length seats - 1 - k) before) of_k.seat of_k.end
 
+-- what the threads of these seats handed back
+pub record HaveRan {T G : Type 0} (rules : Parts → Rules) (gate_calls : G → Option (List GateCall)) (passes : G → Bool)
+    (plan : Plan) (gates : List G) (seats : List SeatView) (rans : List (Ran T)) : Type 0 where
+  pub many : length rans ≡ length seats
+  pub ran : AllRan rules plan seats rans
+  pub ended : AllEnded gate_calls passes gates seats rans
+
 -- each of these gates lets every call go on
 abbrev pub AllPass : {G : Type 0} → (G → Bool) → List G → Type 0
 AllPass passes gates = All (λ gate. passes gate ≡ true) gates

@@ -1,5 +1,6 @@
 //! What each seat of a race is to do.
 ghost use Rattle.std.specs.Prelude.{◌≡◌, ◌<◌, ◌≤◌};
+ghost use Rattle.cdb_base.specs.Limits.{MAX_SEATS};
 ghost use Rattle.cdb_race.specs.Plans.{seats_of, script_of};
 
 use cdb_control::Command;
@@ -46,6 +47,14 @@ pub(crate) struct Plan<'a> {
 }
 
 impl<'a> Plan<'a> {
+    /// How many seats there are.
+    pub(crate) fn seats(&self) -> u8
+        requires { seats_of self.now ≤ MAX_SEATS }
+        ensures { result ≡ seats_of self.now }
+    {
+        self.processes + self.scripts.len() as u8
+    }
+
     /// The script of a seat after those of the processes.
     pub(crate) fn script(&self, seat: u8) -> &'a Script
         requires behind { self.now.processes < seat }

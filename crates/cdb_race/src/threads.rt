@@ -5,11 +5,11 @@ ghost use Rattle.cdb_base.specs.Limits.{MAX_SEATS};
 ghost use Rattle.cdb_race.specs.Faults.{fault_in, AreWell, IsAmongSeats, IsFaultOfStart};
 ghost use Rattle.cdb_race.specs.Faults.{IsFaultOfThreads, IsNotStopped, IsRoomFor, IsFaultOfOne};
 ghost use Rattle.cdb_race.specs.LastFault.{IsLastFault};
-ghost use Rattle.cdb_race.specs.Promises.{IsReady, ArePromises, IsPromise, HasRan, HasEndedAtGate};
-ghost use Rattle.cdb_race.specs.Races.{all_reply_views, AllRan, AllEnded, AllPass, AreRepliesOf, AreSeatsOf};
-ghost use Rattle.cdb_race.specs.Races.{FillsJournal, HasRaced, MayFill};
-ghost use Rattle.cdb_control.specs.Journal.{opened};
-ghost use Rattle.cdb_shared.specs.Seats.{fresh_seats, HasHeadline};
+ghost use Rattle.cdb_race.specs.Plans.{seats_of};
+ghost use Rattle.cdb_race.specs.Promises.{IsReady, ArePromised, IsPromise, HasRan, HasEndedAtGate};
+ghost use Rattle.cdb_race.specs.Races.{all_reply_views, AllPass, AreRepliesOf, AreSeatsOf};
+ghost use Rattle.cdb_race.specs.Races.{FillsJournal, HasRaced, HaveRan, MayFill};
+ghost use Rattle.cdb_shared.specs.Seats.{AreFresh, HasHeadline};
 
 use crate::plan::{Plan, Script};
 use crate::worker::{Ran, SeatPromise, run};
@@ -98,7 +98,7 @@ fn start_all<'s, E, T: Runs + Send + 's, G: Gate + Drop + Send + 's, R: Threads 
     requires ready { All (λ seat. IsReady shared.now plan seat) seats.items }
     requires gates { vec_len gates ≡ vec_len seats }
     ensures count { IfOk result (λ handles. vec_len handles ≡ vec_len seats) }
-    ensures each { IfOk result (λ handles. ArePromises plan.entry seats gates handles) }
+    ensures each { IfOk result (λ handles. ArePromised plan.entry seats.items gates.items handles.items) }
     ensures fault { IfErr result IsFaultOfThreads }
 {
     let mut handles = match Vec::with_capacity(alloc, seats.len()) {
@@ -126,10 +126,8 @@ fn run_all<T: Runs + Send, G: Gate + Drop + Send, R: Threads + Wait + Sync>(
 ) -> Result<Vec<Ran<T>>, ThreadFault>
     requires ready { All (λ seat. IsReady shared.now plan seat) seats.items }
     requires gates { vec_len gates ≡ vec_len seats }
-    ensures count { IfOk result (λ rans. vec_len rans ≡ vec_len seats) }
-    ensures each { IfOk result (λ rans. AllRan T.rules plan.entry seats.items rans.items) }
-    ensures ended { IfOk result
-        (λ rans. AllEnded G.calls G.passes gates.items seats.items rans.items) }
+    ensures ran { IfOk result
+        (λ rans. HaveRan T.rules G.calls G.passes plan.entry gates.items seats.items rans.items) }
     ensures fault { IfErr result IsFaultOfThreads }
 {
     thread::scope(
@@ -138,18 +136,15 @@ fn run_all<T: Runs + Send, G: Gate + Drop + Send, R: Threads + Wait + Sync>(
         |scope| -> Result<Vec<Ran<T>>, ThreadFault>
             requires ready { All (λ seat. IsReady shared.now plan seat) seats.items }
             requires gates { vec_len gates ≡ vec_len seats }
-            ensures count { IfOk result (λ rans. vec_len rans ≡ vec_len seats) }
-            ensures each { IfOk result (λ rans. AllRan T.rules plan.entry seats.items rans.items) }
-            ensures ended { IfOk result
-                (λ rans. AllEnded G.calls G.passes gates.items seats.items rans.items) }
+            ensures ran { IfOk result
+                (λ rans. HaveRan T.rules G.calls G.passes plan.entry gates.items seats.items rans.items) }
             ensures fault { IfErr result IsFaultOfThreads }
         {
             let handles = start_all(scope, rt, alloc, shared, plan, seats, gates)?;
-            let rans = match thread::join_promised(rt, handles) {
-                Ok(rans) => rans,
-                Err(error) => return Err(ThreadFault::NoMemory(NoMemory::from(error))),
-            };
-            Ok(rans)
+            match thread::join_promised(rt, handles) {
+                Ok(rans) => Ok(rans),
+                Err(error) => Err(ThreadFault::NoMemory(NoMemory::from(error))),
+            }
         },
     )
 }
@@ -233,20 +228,19 @@ impl<T: Runs> Raced<T> {
     pub fn close(self) {}
 }
 
-/// A control of the setup in which nothing has happened, shared, with this many seats.
+/// A control of the setup in which nothing has happened, shared, with the seats of the plan.
 fn open_shared<T: Runs, R: Wait>(
     rt: &R,
     alloc: Global,
     setup: Setup,
-    count: u8,
+    plan: Plan<'_>,
 ) -> Result<(Shared<T>, Vec<Seat<T>>), ThreadFault>
-    requires some { 1 ≤ count }
-    requires fits { count ≤ MAX_SEATS }
-    ensures seats { IfOk result
-        (λ r. r.1.items ≡ fresh_seats r.0 (opened setup count) 1 count) }
+    requires some { 1 ≤ seats_of plan }
+    requires fits { seats_of plan ≤ MAX_SEATS }
+    ensures seats { IfOk result (λ r. AreFresh r.0 setup (seats_of plan.entry) r.1.items) }
     ensures fault { IfErr result (λ fault. fault ≡ ThreadFault.NoMemory no_memory) }
 {
-    let control = match Control::open(alloc, setup, count) {
+    let control = match Control::open(alloc, setup, plan.seats()) {
         Ok(control) => control,
         Err(OpenFault::NoMemory(refused)) => return Err(ThreadFault::NoMemory(refused)),
         Err(OpenFault::Seats) => unreachable!(),
@@ -296,9 +290,8 @@ pub fn race<T: Runs + Send, G: Gate + Drop + Send, R: Threads + Wait + Sync>(
         turns,
         scripts,
     };
-    let count = processes + scripts.len() as u8;
-    let (room, reply_room) = room_for(alloc, usize::from(count))?;
-    let (shared, seats) = open_shared(rt, alloc, setup, count)?;
+    let (room, reply_room) = room_for(alloc, usize::from(plan.seats()))?;
+    let (shared, seats) = open_shared(rt, alloc, setup, plan)?;
     let rans = match run_all(rt, alloc, &shared, plan, seats, gates) {
         Ok(rans) => rans,
         Err(fault) => {

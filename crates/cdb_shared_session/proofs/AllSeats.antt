@@ -14,6 +14,7 @@ use Rattle.cdb_session.specs.Exchanges.{Answer}
 use Rattle.cdb_session.specs.declared.inquiry.Inquiry.{Inquiry}
 use Rattle.cdb_setup.specs.Parts.{Parts}
 use Rattle.cdb_shared.specs.Seats.{SeatView, RestsAt, IsKnownBy, IsLater, fresh_seat, fresh_seats}
+use Rattle.cdb_streams.specs.Streams.{Stream}
 use Rattle.cdb_streams.specs.declared.fault.PlayFault.{PlayFault}
 use Rattle.cdb_streams.specs.declared.source.ReadFault.{ReadFault}
 use Rattle.cdb_shared_session.specs.Openings.{SeatSeen}
@@ -24,16 +25,13 @@ use Rattle.cdb_session.specs.Since.{since}
 use Rattle.cdb_session.specs.Styles.{StyleView, prompt_at}
 use Rattle.cdb_shared_session.specs.SeatParts.{is_numbered, part_in, seat_style}
 use Rattle.cdb_shared_session.specs.declared.seat.Welcome.{Welcome}
-use Rattle.cdb_shared_session.specs.Promises.{IsUnused, HasServed, HasRun, AllHaveRun}
+use Rattle.cdb_shared_session.specs.Promises.{AreDealt, IsUnused, HasServed, HasRun, HaveLeft}
 use Rattle.cdb_shared_session.specs.declared.endpoint.Finished.{Finished}
+use Rattle.cdb_shared_session.specs.declared.keeping.Keeping.{Keeping}
 use Rattle.cdb_shared_session.proofs.SomeOf.{some_of}
 use Rattle.cdb_shared_session.proofs.FinalJournal.{session_known}
 
--- the seats that were dealt of a control
-pub record AreDealt (shared : TableId) (c : Journaled) (seats : List SeatView) : Type 0 where
-  pub many : length seats ≡ c.seats
-  pub each : (k : ℕ) (d : SeatView) → k < c.seats → get_or seats k d ≡ fresh_seat shared c (1 + k)
-
+-- each seat that was dealt
 pub dealt : (shared : TableId) (c : Journaled) (seats : List SeatView) → seats ≡ fresh_seats shared c 1 c.seats → AreDealt shared c seats
 dealt shared c seats is =
     record {
@@ -41,10 +39,10 @@ dealt shared c seats is =
       each = λ k d low. ap (λ l. get_or l k d) is ∙ get_or-map-range_with_len (fresh_seat shared c) 1 c.seats k (1 + k) d low refl;
     }
 
-pub all_ready : (shared : TableId) (c : Journaled) (welcome : Welcome) → welcome.greeting.now ≡ greeting_text c.setup
-    → welcome.seats ≡ c.seats → welcome.setup.now ≡ c.setup → (1 ≤ welcome.seats) × (welcome.seats ≤ MAX_SEATS)
-    → (seats : List SeatView) → AreDealt shared c seats → All (λ seat. IsUnused shared welcome seat) seats
-all_ready shared c welcome greets counts same some seats new k d low =
+pub all_ready : {shared : TableId} {c : Journaled} {welcome : Welcome} {seats : List SeatView} → AreDealt shared c seats
+    → welcome.greeting.now ≡ greeting_text c.setup → welcome.seats ≡ c.seats → welcome.setup.now ≡ c.setup
+    → (1 ≤ welcome.seats) × (welcome.seats ≤ MAX_SEATS) → All (λ seat. IsUnused shared welcome seat) seats
+all_ready new greets counts same some k d low =
     rw (new.each k d (omega (arith, new.many))) (record { rests = (refl, refl); greeting = greets; seats = counts; setup = same; some = some })
 
 -- the style that a seat is welcomed in, by its setup at the end
@@ -69,54 +67,57 @@ ended_known rules Answers shared begun c Opens seat n is by few None outcome (fa
     (fault, opens, record { none = rw (← is, by.calls, unseen) refl; outcome_is = failed })
 
 -- what the threads of the seats have left
-module _ {P T : Type 0} (rules : Parts → Rules) (Answers : RunView → Inquiry → Answer → Type 0) (known : T → Known) (opens : P → Result SeatSeen ReadFault
-    → Type 0) (shared : TableId) (begun : Journaled) (openers : Vec P Global) (before seats : Vec SeatView Global) (finished : Vec (Finished T) Global)
-    (is : before.items ≡ fresh_seats shared begun 1 begun.seats) (of : vec_len openers ≡ begun.seats) (some : 1 ≤ vec_len openers)
-    (count : (vec_len seats ≡ vec_len before) × (vec_len finished ≡ vec_len before))
-    (all : AllHaveRun rules Answers known opens before.items openers.items seats.items finished.items) where
-  new : AreDealt shared begun before.items
-  new = dealt shared begun before.items is
+module _ {R P T J : Type 0} {rules : Parts → Rules} {Answers : RunView → Inquiry → Answer → Type 0} {known : T → Known}
+    {opens : P → Result SeatSeen ReadFault → Type 0} {stream : J → Stream} {shared : TableId} {begun : Journaled} {openers : Vec P Global}
+    {before : Vec SeatView Global} {keeping : Keeping R J} {left : Vec SeatView Global × Vec (Finished T) Global × Keeping R J}
+    (new : AreDealt shared begun before.items) (of : vec_len openers ≡ begun.seats) (some : 1 ≤ vec_len openers)
+    (ran : HaveLeft rules Answers known opens stream before openers keeping left) where
+  abbrev seats : List SeatView
+  seats = (left.0).items
 
-  many : length seats.items ≡ length openers.items
-  many = omega (arith, new.many, before.ok.0, seats.ok.0, openers.ok.0)
+  abbrev finished : List (Finished T)
+  finished = (left.1).items
 
-  responded : length finished.items ≡ length openers.items
-  responded = omega (arith, new.many, before.ok.0, finished.ok.0, openers.ok.0)
+  many : length seats ≡ length openers.items
+  many = omega (arith, ran.count.0, new.many, before.ok.0, (left.0).ok.0, openers.ok.0, of)
+
+  responded : length finished ≡ length openers.items
+  responded = omega (arith, ran.count.1, new.many, before.ok.0, (left.1).ok.0, openers.ok.0, of)
 
   abbrev nobody : SeatView
   nobody = fresh_seat shared begun 0
 
   -- what the thread of a seat has handed back
   run_by : (k : ℕ) (p : P) (seat : SeatView) (a : Finished T) → k < length openers.items
-      → HasRun rules Answers known opens (fresh_seat shared begun (1 + k)) (get_or openers.items k p) (get_or seats.items k seat) (get_or finished.items k a)
+      → HasRun rules Answers known opens (fresh_seat shared begun (1 + k)) (get_or openers.items k p) (get_or seats k seat) (get_or finished k a)
   run_by k p seat a low =
-      rw (← new.each k nobody (omega (arith, low, openers.ok.0))) (all k seat a (omega (arith, many)) nobody p)
+      rw (← new.each k nobody (omega (arith, low, openers.ok.0))) (ran.each k seat a (omega (arith, many)) nobody p)
 
-  pub all_rest : All (λ seat. RestsAt shared seat) seats.items
+  pub all_rest : All (λ seat. RestsAt shared seat) seats
   all_rest k d low =
       let below : k < length openers.items = omega (arith, many) in
-      let its = (run_by k (some_of openers.items (omega arith)) d (some_of finished.items (omega (arith, responded))) below).later in
+      let its = (run_by k (some_of openers.items (omega arith)) d (some_of finished (omega (arith, responded))) below).later in
       (its.home, its.rests)
 
-  module _ (c : Journaled) (by : All (λ seat. IsKnownBy c seat) seats.items) (few : length c.journal ≤ MAX_ENTRIES) where
+  module _ (c : Journaled) (by : All (λ seat. IsKnownBy c seat) seats) (few : length c.journal ≤ MAX_ENTRIES) where
     one : (k : ℕ) (p : P) (a : Finished T) → k < length openers.items
-        → IsFinished rules Answers known begun c (k + 1) (opens (get_or openers.items k p)) (get_or finished.items k a)
+        → IsFinished rules Answers known begun c (k + 1) (opens (get_or openers.items k p)) (get_or finished k a)
     one k p a low =
-        let ended = get_or finished.items k a in
+        let ended = get_or finished k a in
         let its = run_by k p nobody a low in
         let add_one : 1 + k ≡ k + 1 = omega arith in
-        ended_known rules Answers shared begun c (opens (get_or openers.items k p)) (get_or seats.items k nobody) (k + 1) (its.later.number ∙ add_one)
+        ended_known rules Answers shared begun c (opens (get_or openers.items k p)) (get_or seats k nobody) (k + 1) (its.later.number ∙ add_one)
         (by k nobody (omega (arith, many))) few (option_map known ended.console) ended.outcome (rw (← add_one) its.served)
 
-    pub sessions : AreOfSeats c.seats c.journal → AreSessions rules Answers known opens begun openers.items c finished.items
+    pub sessions : AreOfSeats c.seats c.journal → AreSessions rules Answers known opens begun openers.items c finished
     sessions entries =
         let least : 0 < length openers.items = omega (arith, openers.ok.0) in
-        let first = (run_by 0 (some_of openers.items least) nobody (some_of finished.items (omega (arith, responded))) least).later in
+        let first = (run_by 0 (some_of openers.items least) nobody (some_of finished (omega (arith, responded))) least).later in
         let at = by 0 nobody (omega (arith, many)) in
         record {
           setup_is = at.setup ∙ first.setup;
           seats_are = at.seats ∙ first.seats ∙ sym of ∙ openers.ok.0;
-          begins = Begins-trans begun.journal (get_or seats.items 0 nobody).seen c.journal first.begins at.begins;
+          begins = Begins-trans begun.journal (get_or seats 0 nobody).seen c.journal first.begins at.begins;
           entries = entries;
           many = responded;
           each = λ k p a low. one k p a low;

@@ -18,7 +18,6 @@ use Rattle.cdb_session.specs.declared.inquiry.Inquiry.{Inquiry}
 use Rattle.cdb_session.proofs.LaterParts.{each_line_on}
 use Rattle.cdb_setup.specs.Parts.{Parts}
 use Rattle.cdb_shared.specs.Seats.{SeatView, IsKnownBy, IsLater, fresh_seat}
-use Rattle.cdb_streams.specs.Lines.{lines_of}
 use Rattle.cdb_streams.specs.declared.fault.PlayFault.{PlayFault}
 use Rattle.cdb_streams.specs.declared.fault.PlayFault.TheVariants as fault
 use Rattle.cdb_shared_session.specs.SeatParts.{part_in, part_seen}
@@ -45,38 +44,10 @@ module _ (Answers : RunView → Inquiry → Answer → Type 0) (style : StyleVie
   ends_known : (returned : Result (Unit {0}) PlayFault) (moves : List Move)
       → EndsAs (IsAnswered Answers style old) (IsServed Answers style old) (IsCutShort Answers style old) returned moves
       → EndsAs (IsAnswered Answers style new) (IsServed Answers style new) (IsCutShort Answers style new) returned moves
-  ends_known (Ok done) moves e = record { responded = served_known (lines_of (read_in moves)) (written_in moves) e.responded; ended = e.ended }
-  ends_known (Err fault.Read) moves e =
-      (record { responded = served_known (ended_lines (read_in moves)) (written_in moves) e.0.responded; goes_on = e.0.goes_on; more = e.0.more }, e.1)
-  ends_known (Err fault.Write) moves (e, last) = (
-    record {
-      lines = e.lines;
-      others = e.others;
-      outputs = e.outputs;
-      missing = e.missing;
-      begins = e.begins;
-      responded = served_known e.lines e.outputs e.responded;
-      written = e.written;
-    },
-    last,
-  )
-  ends_known (Err (fault.NoMemory refused)) moves e =
-      let k = e.commands in
-      record {
-        lines = e.lines;
-        next = e.next;
-        others = e.others;
-        begins = e.begins;
-        one = e.one;
-        responded = answered_known e.lines (written_in moves) e.responded;
-        commands = record {
-          exchanges = k.exchanges;
-          begun = k.begun;
-          asked = k.asked;
-          next_asked = k.next_asked;
-          commands = has_known (k.exchanges ++ k.begun) k.commands;
-        };
-      }
+  ends_known (Ok done) moves e = search (rules, served_known)
+  ends_known (Err fault.Read) moves e = search (rules, served_known)
+  ends_known (Err fault.Write) moves e = search (rules, served_known)
+  ends_known (Err (fault.NoMemory refused)) moves e = search (rules, answered_known, has_known)
   ends_known (Err other) moves e = e
 
   longer_known : (returned : Result (Unit {0}) PlayFault) (moves : List Move) → IsSession Answers style old returned moves

@@ -3,14 +3,13 @@ use Rattle.std.proofs.lemmas.Grind.{common_steps, flat_map-append}
 use Rattle.std.proofs.lemmas.Option.{gets}
 use Rattle.std.proofs.Common.{◌≡◌, ℕ, zero, suc, ◌-◌, ◌≤◌, List, [], ◌∷◌, ◌++◌, length, take, drop, refl}
 use Rattle.std.proofs.Common.{sym, ap, ◌∙◌, arith, length-append, take-append-drop}
-use Rattle.std.proofs.lemmas.List.{take-append-le, take_all}
+use Rattle.std.proofs.lemmas.List.{take-append-le}
 use Rattle.std.proofs.KnownBytes.{Appends-nil}
 use Rattle.std.specs.Prelude.{Option, Some, None, option_map, IfSome, IfOk, Result, Ok, Err}
 use Rattle.cdb_control.specs.Journal.{Begins}
-use Rattle.cdb_control.proofs.Own.{Begins-refl}
 use Rattle.cdb_control.specs.declared.control.Entry.{Entry}
 use Rattle.cdb_journal.specs.Journals.{entry_line, journal_text}
-use Rattle.cdb_streams.specs.Endings.{whole_ending, Complete, WriterFailed}
+use Rattle.cdb_streams.specs.Endings.{whole_ending}
 use Rattle.cdb_streams.specs.Streams.{Stream}
 use Rattle.cdb_streams.specs.Written.{IsWritten, Only}
 use Rattle.cdb_streams.specs.declared.buffer.OutputFault.{OutputFault}
@@ -99,20 +98,6 @@ module _ {J : Type 0} (stream : J → Stream) where
       (keeps_none new n more (omega (arith, first.1, ap length begins.1 ∙ length-append seen begins.0)))
   keeps_longer old new (Err failed) seen more broken begins =
       rw (begins.1, texts) (fails_first stream old new (journal_text seen) (journal_text begins.0) broken)
-
-  -- what the file lacked was added
-  pub kept_more : (old file new : J) (count : ℕ) (journal : List Entry) → Keeps stream old file 0 (Ok count) journal
-      → IsWritten stream Complete file new (Only (journal_text (drop count journal))) → Keeps stream old new 0 (Ok (length journal)) journal
-  kept_more old file new count journal first (text, is, taken) =
-      let all : take (length journal) journal ≡ journal = take_all (length journal) journal (omega arith) in
-      keeps_then old file new 0 count (Ok (length journal)) journal journal first (Begins-refl journal)
-      (first.1, omega arith, rw all (rw is at taken))
-
-  -- or a beginning of it
-  pub kept_broken : (old file new : J) (count : ℕ) (failed : Failed) (journal : List Entry) → Keeps stream old file 0 (Ok count) journal
-      → IsWritten stream WriterFailed file new (Only (journal_text (drop count journal))) → Keeps stream old new 0 (Err failed) journal
-  kept_broken old file new count failed journal first (text, is, broken) =
-      keeps_then old file new 0 count (Err failed) journal journal first (Begins-refl journal) (rw is at broken)
 
 -- ---- what is known of the file
 

@@ -78,9 +78,10 @@ asked_have_lines chooses seat (exchange ∷ exchanges) all =
     all-append (λ e. HasNumbersInRange e.command) (asked_of seat exchange) (all_asked chooses (seat_next chooses seat exchange.0) exchanges)
     (entries_have_line seat exchange.0 exchange.1.given all.0) (asked_have_lines chooses (seat_next chooses seat exchange.0) exchanges all.1)
 
-first_have_lines : (first more : List Entry) → HaveLines (first ++ more) → HaveLines first
-first_have_lines [] more all = tt
-first_have_lines (e ∷ first) more all = (all.0, first_have_lines first more all.1)
+-- what is true of each of two lists together
+of_both : {A : Type 0} (P : A → Type 0) (xs ys : List A) → AllByRecursion P (xs ++ ys) → AllByRecursion P xs × AllByRecursion P ys
+of_both P [] ys all = (tt, all)
+of_both P (x ∷ xs) ys all = let rest = of_both P xs ys all.1 in ((all.0, rest.0), rest.1)
 
 module _ (Answers : RunView → Inquiry → Answer → Type 0) (style : StyleView) (part : Part) where
   calls_have_lines : (exchanges : List Exchange) → HaveLine exchanges → HasCommands style part exchanges → HaveLines part.calls
@@ -88,7 +89,7 @@ module _ (Answers : RunView → Inquiry → Answer → Type 0) (style : StyleVie
       let all = asked_have_lines style.chooses style.first exchanges asked in
       elim has [
         | inl same ↦ rw same all
-        | inr (full, missing, same) ↦ first_have_lines part.calls missing (rw same at all)
+        | inr (full, missing, same) ↦ (of_both (λ e. HasNumbersInRange e.command) part.calls missing (rw same at all)).0
       ]
 
   have_line : (exchanges : List Exchange) (lines : List (List ℕ)) → AreAsked exchanges lines → HaveLine exchanges
@@ -151,10 +152,6 @@ module _ (rules : Parts → Rules) (Answers : RunView → Inquiry → Answer →
       (since (part_in rules begun seat) (part_in rules c seat)) outcome held.made held.session))
   ended_in_range Opens None outcome (fault, opens, unopened) = rw (none_came unopened.none) tt
 
-later_of_seats : (seats : ℕ) (first more : List Entry) → AreOfSeats seats (first ++ more) → AreOfSeats seats more
-later_of_seats seats [] more all = all
-later_of_seats seats (e ∷ first) more all = later_of_seats seats first more all.1
-
 pub writable : {P T : Type 0} (rules : Parts → Rules) (Answers : RunView → Inquiry → Answer → Type 0) (known : T → Known)
     (opens : P → Result SeatSeen ReadFault → Type 0) (begun : Journaled) (openers : List P) (c : Journaled) (finished : List (Finished T))
     → AreSessions rules Answers known opens begun openers c finished
@@ -162,7 +159,7 @@ pub writable : {P T : Type 0} (rules : Parts → Rules) (Answers : RunView → I
 writable rules Answers known opens begun openers c finished all can of few =
     let its = all.begins.0 in
     let is = all.begins.1 in
-    let of_seats = later_of_seats c.seats begun.journal its (rw is at all.entries) in
+    let of_seats = (of_both _ begun.journal its (rw is at all.entries)).1 in
     let ranges = of_each_seat c.seats its of_seats (λ seat low high.
     let k = seat - 1 in
     let below : k < length openers = omega (arith, all.seats_are, low, high) in

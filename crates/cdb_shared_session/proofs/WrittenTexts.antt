@@ -1,7 +1,7 @@
 -- Texts that are written one after the other.
 use Rattle.std.proofs.Common.{ℕ, List, ◌++◌, sym, ap, ◌∙◌, append_assoc}
 use Rattle.std.proofs.KnownBytes.{Appends-trans}
-use Rattle.std.specs.Prelude.{Result, Ok, Err}
+use Rattle.std.specs.Prelude.{Result, Ok, Err, IsErrAnd}
 use Rattle.cdb_streams.specs.Streams.{Stream, Takes, Fails, Writes, one_more}
 
 module _ {W : Type 0} (stream : W → Stream) where
@@ -28,3 +28,9 @@ module _ {W : Type 0} (stream : W → Stream) where
       → Takes stream old now a → Writes stream r now new b → Writes stream r old new (a ++ b)
   writes_then (Ok done) old now new a b first second = takes_then old now new a b first second
   writes_then (Err failed) old now new a b first second = fails_then old now new a b first second
+
+  -- the first of two texts failed
+  pub cut_off : {A E : Type 0} (Q : E → Type 0) (r : Result A E) (old new : W) (a b : List ℕ)
+      → IsErrAnd r Q → Fails stream old new a → Writes stream r old new (a ++ b)
+  cut_off Q (Ok done) old new a b is failed = absurd is
+  cut_off Q (Err fault) old new a b is failed = fails_first old new a b failed

@@ -6,8 +6,7 @@ ghost use Rattle.cdb_session.specs.Greetings.{greeting_text};
 ghost use Rattle.cdb_session.specs.Requests.{most_seats};
 ghost use Rattle.cdb_shared_session.specs.KeptAlone.{KeepsOn, HoldsFrom, DebugsKept};
 
-use crate::keeping::{Kept, keep_rest};
-use crate::reports::write_journal;
+use crate::keeping::{Kept, add, keep_rest};
 use cdb_base::NoMemory;
 use cdb_base::limits::MAX_SEATS;
 use cdb_control::{CallFault, Command, Control, Reply};
@@ -15,7 +14,7 @@ use cdb_rules::Runs;
 use cdb_session::{
     Answers, Caller, Console, Inquiry, News, Style, answer_in, begin, greeting_at, run,
 };
-use cdb_streams::{Failed, OutputFault, PlayFault, Sink};
+use cdb_streams::{Failed, PlayFault, Sink};
 use std::alloc::Global;
 use std::marker::{Model, PhantomData};
 
@@ -49,11 +48,7 @@ impl<R: Runs, A, J: Sink + Drop> KeptControl<R, A, J> {
             return;
         };
         let journal = self.control.journal();
-        match write_journal(alloc, &journal[count..], &mut self.file) {
-            Ok(()) => self.count = Ok(journal.len()),
-            Err(OutputFault::Write) => self.count = Err(Failed),
-            Err(OutputFault::NoMemory(_)) => {}
-        }
+        self.count = add(alloc, &journal[count..], &mut self.file, count);
     }
 }
 

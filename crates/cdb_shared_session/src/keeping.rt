@@ -1,6 +1,7 @@
 //! A journal that is kept in a file while its sessions go on.
 
-ghost use Rattle.std.specs.Prelude.{◌≤◌, List, Option, IfOk, IfSome, length};
+ghost use Rattle.std.specs.Prelude.{◌≡◌, ◌+◌, ◌≤◌, List, Option, IfOk, IfSome, drop, length};
+ghost use Rattle.cdb_base.specs.Limits.{MAX_ENTRIES};
 ghost use Rattle.cdb_control.specs.declared.control.Entry.{Entry as AnEntry};
 ghost use Rattle.cdb_control.specs.Journal.{Begins};
 ghost use Rattle.cdb_shared.specs.Seats.{RestsAt, IsLater};
@@ -35,6 +36,28 @@ pub(crate) struct Keeping<R: Runs, J> {
     pub(crate) count: Result<usize, Failed>,
 }
 
+/// Adds these entries to the file, in one piece, behind so many that it has, and returns how many it then has. Where
+/// memory is out it adds none.
+///
+/// # Errors
+/// `Failed` where the file can't be written; it has a beginning of them.
+pub(crate) fn add<J: Sink>(
+    alloc: Global,
+    entries: &[Entry],
+    file: &mut J,
+    count: usize,
+) -> Result<usize, Failed>
+    requires { count + length entries.now ≤ MAX_ENTRIES }
+    ensures { (seen : List AnEntry) → entries.now ≡ drop count seen → count ≤ length seen →
+        Keeps J.stream file.old file.new count result seen }
+{
+    match write_journal(alloc, entries, file) {
+        Ok(()) => Ok(count + entries.len()),
+        Err(OutputFault::Write) => Err(Failed),
+        Err(OutputFault::NoMemory(_)) => Ok(count),
+    }
+}
+
 /// Adds the entries behind so many to the file, in one piece, and returns how many it then has. Where memory is out it
 /// adds none.
 ///
@@ -56,11 +79,7 @@ pub(crate) fn keep_new<R: Runs, J: Sink, Rt: Wait>(
     let Ok(entries) = shared.look(rt, alloc, watch, count) else {
         return Ok(count);
     };
-    match write_journal(alloc, entries.as_slice(), file) {
-        Ok(()) => Ok(count + entries.len()),
-        Err(OutputFault::Write) => Err(Failed),
-        Err(OutputFault::NoMemory(_)) => Ok(count),
-    }
+    add(alloc, entries.as_slice(), file, count)
 }
 
 /// Adds what is new to the file again and again, until none of the seats is going on.

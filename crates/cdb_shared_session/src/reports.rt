@@ -13,8 +13,9 @@ use crate::endpoint::Finished;
 use cdb_base::limits::MAX_SEATS;
 use cdb_control::Entry;
 use cdb_journal::journal_text;
-use cdb_streams::{Failed, OutputFault, PlayFault, Sink, status_of, write_all, write_fault};
-use itoa::Buffer;
+use cdb_streams::{
+    Failed, OutputFault, Piece, PlayFault, Sink, status_of, write_all, write_each, write_fault,
+};
 use std::alloc::Global;
 
 /// Writes a text.
@@ -50,10 +51,14 @@ pub fn write_journal<W: Sink>(
 fn write_name<W: Sink>(seat: u8, out: &mut W) -> Result<(), Failed>
     ensures { Writes W.stream result out.old out.new (seat_name seat) }
 {
-    let mut buffer = Buffer::new();
-    write_all(out, b"seat ")?;
-    write_all(out, buffer.format(seat).as_bytes())?;
-    write_all(out, b": ")
+    write_each(
+        out,
+        &[
+            Piece::Text("seat "),
+            Piece::Number(usize::from(seat)),
+            Piece::Text(": "),
+        ],
+    )
 }
 
 /// Writes the line of a seat whose session ended so, if that was with a fault.
@@ -110,6 +115,7 @@ pub fn write_kept_fault<W: Sink>(kept: &Result<(), OutputFault>, out: &mut W) ->
 }
 
 /// Writes the lines of a journal that was not written, and of a file in which it was not kept.
+#[tactic(auto, using(crate::proofs::WrittenTexts::cut_off, crate::proofs::WrittenTexts::writes_then))]
 fn write_journal_faults<W: Sink>(
     written: &Result<(), OutputFault>,
     kept: &Result<(), OutputFault>,
@@ -125,6 +131,7 @@ fn write_journal_faults<W: Sink>(
 /// there are at most 64, and then one for a journal that was not written, and one for a file in which it was not kept.
 /// It takes no memory, and where the writer
 /// fails, what was written is a beginning of the lines.
+#[tactic(auto, using(crate::proofs::WrittenTexts::cut_off, crate::proofs::WrittenTexts::writes_then))]
 pub fn write_failures<T, W: Sink>(
     finished: &[Finished<T>],
     written: &Result<(), OutputFault>,

@@ -65,6 +65,7 @@ impl<'a, R: Runs, A: Answers<R>, Rt: Wait> Caller for SeatCaller<'a, R, A, Rt> {
         self.shared.call(self.rt, alloc, &mut self.seat, command)
     }
 
+    #[tactic(auto, using(crate::proofs::Replicas::has_later))]
     fn ask(
         &mut self,
         alloc: Global,

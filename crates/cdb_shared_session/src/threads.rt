@@ -1,14 +1,15 @@
 //! Starting and joining the threads of the seats.
 
-ghost use Rattle.std.specs.Prelude.{◌≡◌, ◌≤◌, length, vec_len, vec_capacity, All, IfOk, IfErr};
+ghost use Rattle.std.specs.Prelude.{◌≡◌, ◌≤◌, vec_len, vec_capacity, All, IfOk, IfErr};
 ghost use Rattle.cdb_journal.specs.Journals.{IsWritable};
 ghost use Rattle.cdb_session.specs.Greetings.{greeting_text};
 ghost use Rattle.cdb_shared_session.specs.Faults.{IsFaultOfThreads};
 ghost use Rattle.cdb_shared_session.specs.SharedSessions.{AreSessions};
-ghost use Rattle.cdb_shared_session.specs.Promises.{IsUnused, IsSeatPromise, AreSeatPromises};
-ghost use Rattle.cdb_shared_session.specs.Promises.{AllKept, AllHaveRun, HasRun};
-ghost use Rattle.cdb_shared_session.specs.KeptOutcomes.{GoesOnKeeping, HasKept};
-ghost use Rattle.cdb_shared.specs.Seats.{fresh_seat, fresh_seats, HasHeadline, IsLater, RestsAt};
+ghost use Rattle.cdb_shared_session.specs.Promises.{IsUnused, IsSeatPromise, ArePromised, HasRun};
+ghost use Rattle.cdb_shared_session.specs.Promises.{seats_promised, openers_promised, AllHaveRun};
+ghost use Rattle.cdb_shared_session.specs.Promises.{AreDealt, MayRun, HaveLeft};
+ghost use Rattle.cdb_shared_session.specs.KeptOutcomes.{HasKept};
+ghost use Rattle.cdb_shared.specs.Seats.{fresh_seat, HasHeadline};
 
 use crate::endpoint::{Finished, Opener};
 use crate::keeping::{Keeping, Kept, keep, keep_end};
@@ -92,7 +93,7 @@ fn start_all<
     requires ready { All (λ seat. IsUnused shared.now welcome seat) seats.items }
     requires openers { vec_len openers ≡ vec_len seats }
     ensures count { IfOk result (λ handles. vec_len handles ≡ vec_len seats) }
-    ensures each { IfOk result (λ handles. AreSeatPromises seats openers handles) }
+    ensures each { IfOk result (λ handles. ArePromised seats.items openers.items handles.items) }
     ensures fault { IfErr result IsFaultOfThreads }
 {
     let mut handles = Vec::with_capacity(alloc, seats.len())?;
@@ -119,7 +120,8 @@ fn join_each<R: Runs, A: Answers<R>, P: Opener, Rt: Threads>(
     requires empty { (vec_len seats ≡ 0) × (vec_len all ≡ 0) }
     requires room { (vec_len handles ≤ vec_capacity seats) × (vec_len handles ≤ vec_capacity all) }
     ensures count { (vec_len result.0 ≡ vec_len handles) × (vec_len result.1 ≡ vec_len handles) }
-    ensures each { AllKept R.rules A.answers P.Seat.known P.opens handles.items result.0.items result.1.items }
+    ensures each { AllHaveRun R.rules A.answers P.Seat.known P.opens
+        (seats_promised handles.items) (openers_promised handles.items) result.0.items result.1.items }
 {
     while let Some(handle) = handles.pop() {
         let SeatResult { seat, finished } = handle.join(rt);
@@ -136,53 +138,8 @@ type Left<R, P, J> = (
     Keeping<R, J>,
 );
 
-/// Starts a thread for each seat in this scope, keeps the journal while they are going on, and joins them all; the
-/// seats and how their sessions ended are added to lists that have room for them.
-fn join_all<
-    's,
-    E,
-    R: Runs + Send + 's,
-    A: Answers<R> + Send + 's,
-    P: Opener + Send + 's,
-    J: Sink + Drop,
-    Rt: Threads + Wait + Clock + Sync,
->(
-    scope: &Scope<'s, E>,
-    rt: &'s Rt,
-    alloc: Global,
-    shared: &'s Shared<R>,
-    going: &'s AtomicU64,
-    welcome: Welcome<'s>,
-    seats: Vec<Seat<R>>,
-    openers: Vec<P>,
-    keeping: Keeping<R, J>,
-    done: Vec<Seat<R>>,
-    all: Vec<Finished<P::Seat>>,
-) -> Result<Left<R, P, J>, RaceFault>
-    requires ready { All (λ seat. IsUnused shared.now welcome seat) seats.items }
-    requires openers { vec_len openers ≡ vec_len seats }
-    requires watch { RestsAt shared.now keeping.watch }
-    requires counted { IfOk keeping.count (λ count. count ≤ length keeping.watch.seen) }
-    requires empty { (vec_len done ≡ 0) × (vec_len all ≡ 0) }
-    requires room { (vec_len seats ≤ vec_capacity done) × (vec_len seats ≤ vec_capacity all) }
-    ensures count { IfOk result
-        (λ r. (vec_len r.0 ≡ vec_len seats) × (vec_len r.1 ≡ vec_len seats)) }
-    ensures each { IfOk result
-        (λ r. AllHaveRun R.rules A.answers P.Seat.known P.opens seats.items openers.items r.0.items r.1.items) }
-    ensures later { IfOk result (λ r. IsLater keeping.watch r.2.watch) }
-    ensures kept { IfOk result (λ r. GoesOnKeeping J.stream keeping r.2) }
-    ensures fault { IfErr result IsFaultOfThreads }
-{
-    let handles = start_all::<E, R, A, P, Rt>(
-        scope, rt, alloc, shared, going, welcome, seats, openers,
-    )?;
-    let keeping = keep(shared, rt, alloc, keeping, going);
-    let (seats, finished) = join_each::<R, A, P, Rt>(rt, handles, done, all);
-    Ok((seats, finished, keeping))
-}
-
-/// Serves every seat in a thread of its own, keeps the journal meanwhile, and joins them all; the seats and how their
-/// sessions ended are added to lists that have room for them.
+/// Serves every seat in a thread of its own, keeps the journal while they are going on, and joins them all; the seats
+/// and how their sessions ended are added to lists that have room for them.
 fn run_all<
     R: Runs + Send,
     A: Answers<R> + Send,
@@ -201,45 +158,38 @@ fn run_all<
     done: Vec<Seat<R>>,
     all: Vec<Finished<P::Seat>>,
 ) -> Result<Left<R, P, J>, RaceFault>
-    requires ready { All (λ seat. IsUnused shared.now welcome seat) seats.items }
-    requires openers { vec_len openers ≡ vec_len seats }
-    requires watch { RestsAt shared.now keeping.watch }
-    requires counted { IfOk keeping.count (λ count. count ≤ length keeping.watch.seen) }
-    requires empty { (vec_len done ≡ 0) × (vec_len all ≡ 0) }
-    requires room { (vec_len seats ≤ vec_capacity done) × (vec_len seats ≤ vec_capacity all) }
-    ensures count { IfOk result
-        (λ r. (vec_len r.0 ≡ vec_len seats) × (vec_len r.1 ≡ vec_len seats)) }
-    ensures each { IfOk result
-        (λ r. AllHaveRun R.rules A.answers P.Seat.known P.opens seats.items openers.items r.0.items r.1.items) }
-    ensures later { IfOk result (λ r. IsLater keeping.watch r.2.watch) }
-    ensures kept { IfOk result (λ r. GoesOnKeeping J.stream keeping r.2) }
+    requires { MayRun shared.now welcome seats openers keeping done all }
+    ensures left { IfOk result
+        (HaveLeft R.rules A.answers P.Seat.known P.opens J.stream seats openers keeping) }
     ensures fault { IfErr result IsFaultOfThreads }
 {
     thread::scope(
         thread::scope_env(),
         rt,
         |scope| -> Result<Left<R, P, J>, RaceFault>
-            requires ready { All (λ seat. IsUnused shared.now welcome seat) seats.items }
-            requires openers { vec_len openers ≡ vec_len seats }
-            requires watch { RestsAt shared.now keeping.watch }
-            requires counted { IfOk keeping.count (λ count. count ≤ length keeping.watch.seen) }
-            requires empty { (vec_len done ≡ 0) × (vec_len all ≡ 0) }
-            requires room { (vec_len seats ≤ vec_capacity done) × (vec_len seats ≤ vec_capacity all) }
+            requires { MayRun shared.now welcome seats openers keeping done all }
+            ensures left { IfOk result
+                (HaveLeft R.rules A.answers P.Seat.known P.opens J.stream seats openers keeping) }
+            ensures fault { IfErr result IsFaultOfThreads }
         {
-            join_all::<_, R, A, P, J, Rt>(
-                scope, rt, alloc, shared, going, welcome, seats, openers, keeping, done, all,
-            )
+            let handles = start_all::<_, R, A, P, Rt>(
+                scope, rt, alloc, shared, going, welcome, seats, openers,
+            )?;
+            let keeping = keep(shared, rt, alloc, keeping, going);
+            let (seats, finished) = join_each::<R, A, P, Rt>(rt, handles, done, all);
+            Ok((seats, finished, keeping))
         },
     )
 }
 
 /// A control, shared, with a watch.
+#[tactic(auto, using(crate::proofs::AllSeats::dealt))]
 fn share<R: Runs, Rt: Wait>(
     rt: &Rt,
     alloc: Global,
     control: Control<R>,
 ) -> Result<(Shared<R>, Vec<Seat<R>>, Watch<R>), RaceFault>
-    ensures seats { IfOk result (λ r. r.1.items ≡ fresh_seats r.0 control 1 control.seats) }
+    ensures seats { IfOk result (λ r. AreDealt r.0 control r.1.items) }
     ensures watch { IfOk result (λ r. r.2 ≡ fresh_seat r.0 control 0) }
     ensures fault { IfErr result IsFaultOfThreads }
 {
@@ -257,10 +207,7 @@ fn copy(alloc: Global, setup: &Setup) -> Result<Setup, RaceFault>
     ensures same { IfOk result (λ again. again ≡ setup.now) }
     ensures fault { IfErr result IsFaultOfThreads }
 {
-    match setup.copy(alloc) {
-        Ok(again) => Ok(again),
-        Err(refused) => Err(RaceFault::NoMemory(refused)),
-    }
+    setup.copy(alloc).map_err(RaceFault::NoMemory)
 }
 
 /// How sessions ended: the control, what came of each seat, and the file of the journal, if there is one.

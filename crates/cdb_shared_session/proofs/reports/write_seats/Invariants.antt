@@ -1,4 +1,4 @@
-use Rattle.std.proofs.Common.{◌≡◌, take}
+use Rattle.std.proofs.Common.{◌≡◌, ℕ, ◌+◌, ◌++◌, List, drop}
 use Rattle.cdb_streams.specs.Streams.{Takes}
 use Rattle.cdb_shared_session.specs.Reports.{outcomes, failed_seat_lines}
 use Rattle.cdb_shared_session.proofs.reports.write_seats.Given as goal
@@ -6,5 +6,6 @@ use Rattle.cdb_shared_session.proofs.reports.write_seats.Given as goal
 abbrev pub invariant-loop-its : goal.invariant-loop-its
 invariant-loop-its g l = record {
   seat : l.seat ≡ l.its-index;
-  text : Takes g.W.Sink.stream l.initial.out l.out (failed_seat_lines 1 (outcomes (take l.its-index l.finished)));
+  text : (lines : List ℕ) × Takes g.W.Sink.stream l.initial.out l.out lines
+      × (failed_seat_lines 1 (outcomes l.finished) ≡ lines ++ failed_seat_lines (l.seat + 1) (outcomes (drop l.its-index l.finished)));
 }

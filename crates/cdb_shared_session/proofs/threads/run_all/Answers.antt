@@ -6,28 +6,16 @@ scoped-requires g c =
     let its = c.type_bounds in
     record {
       at = λ a. (
-        c.requires.ready,
+        c.requires,
         (
-          c.requires.openers,
-          (
-            c.requires.watch,
-            (
-              c.requires.counted,
-              (
-                c.requires.empty,
-                (
-                  c.requires.room,
-                  (
-                    record { owned = its.send-R.owned; leaving = λ k x w. search rules },
-                    record { owned = its.send-A.owned; leaving = λ k x w. search rules },
-                    record { owned = its.send-P.owned; leaving = λ k x w. search rules },
-                    record { owned = its.send-P-Seat.owned; leaving = λ k x w. search rules },
-                    record { shared = its.sync-Rt.shared },
-                  ),
-                ),
-              ),
-            ),
-          ),
+          record { owned = its.send-R.owned; leaving = λ k x w. search rules },
+          record { owned = its.send-A.owned; leaving = λ k x w. search rules },
+          record { owned = its.send-P.owned; leaving = λ k x w. search rules },
+          record { owned = its.send-P-Seat.owned; leaving = λ k x w. search rules },
+          record { shared = its.sync-Rt.shared },
         ),
       );
     }
+
+pub returns : goal.returns
+returns g c = (let did = c.scoped.ensures.1 in record { left = did.0; fault = did.1 })

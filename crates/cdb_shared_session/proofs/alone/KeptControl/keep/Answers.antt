@@ -1,16 +1,12 @@
-use Rattle.cdb_shared_session.proofs.KeptEntries.{behind, kept_more, kept_broken}
+use Rattle.std.proofs.Common.{refl}
+use Rattle.cdb_control.proofs.Own.{Begins-refl}
+use Rattle.cdb_shared_session.proofs.KeptEntries.{behind, keeps_then}
 use Rattle.cdb_shared_session.proofs.alone.KeptControl.keep.Goals as goal
 
-pub returns-in-Ok-write_journal-clause-kept : goal.returns-in-Ok-write_journal-clause-kept
-returns-in-Ok-write_journal-clause-kept g c = λ first before.
-    let stream = g.J.Sink.stream in
+pub returns-clause-kept : goal.returns-clause-kept
+returns-clause-kept g c = λ first before.
+    let journal = c.self.inside.control.journal in
     let counted = rw c.in-Ok.is at (rw (← c.self.view_is) at before) in
-    let written = rw (c.in-Ok-write_journal.is, c.journal-journal.ensures.entries, behind) at c.write_journal.ensures in
-    rw c.journal-journal.ensures.entries (kept_more stream first c.self.inside.file c.write_journal.new.out c.in-Ok.count _ counted written)
-
-pub returns-in-Err-Write-clause-kept : goal.returns-in-Err-Write-clause-kept
-returns-in-Err-Write-clause-kept g c = λ first before.
-    let stream = g.J.Sink.stream in
-    let counted = rw c.in-Ok.is at (rw (← c.self.view_is) at before) in
-    let written = rw (c.in-Err-Write.is, c.in-Err-Write.field-0-is, c.journal-journal.ensures.entries, behind) at c.write_journal.ensures in
-    kept_broken stream first c.self.inside.file c.write_journal.new.out c.in-Ok.count _ _ counted written
+    let added = c.add-self-inside.ensures journal (rw (c.journal-journal.ensures.entries, behind) refl) counted.1 in
+    keeps_then g.J.Sink.stream first c.self.inside.file c.add-self-inside.new.file 0 c.in-Ok.count c.add-self-inside.result journal journal
+    counted (Begins-refl journal) added

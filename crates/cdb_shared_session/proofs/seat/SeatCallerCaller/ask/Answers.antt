@@ -1,13 +1,6 @@
-use Rattle.std.proofs.Common.{rules, ◌≡◌, sym, ◌∙◌}
-use Rattle.cdb_shared_session.proofs.Replicas.{has_later}
+use Rattle.std.proofs.Common.{◌≡◌, sym, ◌∙◌}
 use Rattle.cdb_shared_session.proofs.SeatCalls.{asked_now, none_made}
 use Rattle.cdb_shared_session.proofs.seat.SeatCallerCaller.ask.Goals as goal
-
-pub invariant_of-self : goal.invariant_of-self
-invariant_of-self g c = search (rules, has_later)
-
-pub invariant_of-self-2 : goal.invariant_of-self-2
-invariant_of-self-2 g c = search (rules, has_later)
 
 pub returns-in_err-journal-clause-ask : goal.returns-in_err-journal-clause-ask
 returns-in_err-journal-clause-ask g c =
