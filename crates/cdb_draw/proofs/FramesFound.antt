@@ -22,7 +22,7 @@ use Rattle.cdb_draw.specs.declared.layout.Grid.{Grid}
 use Rattle.cdb_draw.specs.Limits.{MOST_DRAWN}
 use Rattle.cdb_draw.specs.declared.weight.Weight.{Weight}
 use Rattle.cdb_draw.specs.declared.frames.Frame.{Frame}
-use Rattle.cdb_draw.proofs.GrownTexts.{each_more}
+use Rattle.cdb_any_run.proofs.OpenCopies.{flat_map-more}
 
 -- a command that left the run as it was has no frame
 pub no_frame : (k events : ℕ) (took : Option Bool) → ((b : Bool) → took ≡ Some b → ⊥) → frame_by k events took ≡ []
@@ -67,7 +67,7 @@ module _ (rules : Parts → Rules) (setup : Parts) (commands : List Command) (i 
   frames_more so grows =
       let f = frame_at rules setup commands in
       let next : i + 1 ≡ 1 + i = omega arith in
-      grows ∙ ap (λ (l : List Frame). l ++ f (i + 1)) so ∙ ap (λ n. flat_map f (range_with_len 1 i) ++ f n) next ∙ sym (each_more f 1 i)
+      grows ∙ ap (λ (l : List Frame). l ++ f (i + 1)) so ∙ ap (λ n. flat_map f (range_with_len 1 i) ++ f n) next ∙ sym (flat_map-more f 1 i)
 
   module _ (command : Command) (below : i < length commands) (is : command ≡ get_or commands i command)
       (control : Journaled) (along : HasCarriedOut setup (take i commands) control) where

@@ -1,9 +1,9 @@
 -- No arrow touches a mark that is not one of its ends.
 use Rattle.std.proofs.Common.{◌≡◌, ◌≢◌, ◌⊎◌, inl, inr, ℕ, ◌+◌, ◌-◌, ◌*◌, ◌/◌, ◌%◌, ◌<◌, ◌≤◌, Bool}
-use Rattle.std.proofs.Common.{true, false, if◌then◌else◌, nat_eq, nat_lt, List, refl, ap, arith}
+use Rattle.std.proofs.Common.{true, false, if◌then◌else◌, nat_eq, List, refl, ap, arith}
 use Rattle.std.proofs.Math.Nat.{mul-le-mul_right, div-add-mod}
-use Rattle.std.proofs.lemmas.Bool.{cases_lt}
 use Rattle.std.proofs.lemmas.Bool.Decides.{nat_tests}
+use Rattle.std.proofs.lemmas.Grind.{common_steps}
 use Rattle.cdb_draw.specs.Apart.{ArrowsKeepOff, IsOff, IsOneOf, IsWayOff}
 use Rattle.cdb_draw.specs.Layout.{columns_for, lane_y, row_of, spot, x_of}
 use Rattle.cdb_draw.specs.Ways.{coming, leaving, passing, side_of, way_of}
@@ -29,32 +29,17 @@ abbrev Place : ℕ → ℕ → ℕ → Type 0
 Place c k i =
     ((k - 1) / c < (i - 1) / c) ⊎ (((i - 1) / c < (k - 1) / c) ⊎ (((k - 1) % c < (i - 1) % c) ⊎ ((i - 1) % c < (k - 1) % c)))
 
-place_by : (c k i : ℕ) → 1 ≤ k → 1 ≤ i → k ≢ i → IsOrdered ((k - 1) / c) ((i - 1) / c) → IsOrdered ((k - 1) % c) ((i - 1) % c) → Place c k i
-place_by c k i a b other (inl above) column = inl above
-place_by c k i a b other (inr (inl below)) column = inr (inl below)
-place_by c k i a b other (inr (inr same)) (inl left) = inr (inr (inl left))
-place_by c k i a b other (inr (inr same)) (inr (inl right)) = inr (inr (inr right))
-place_by c k i a b other (inr (inr same)) (inr (inr level)) =
-    let both = ap (λ row. c * row) same in
-    absurd (other (omega (arith, div-add-mod (k - 1) c, div-add-mod (i - 1) c, both, level)))
-
 place : (c k i : ℕ) → 1 ≤ k → 1 ≤ i → k ≢ i → Place c k i
-place c k i a b other = place_by c k i a b other (ordered _ _) (ordered _ _)
+place c k i a b other = grind (arith, div-add-mod (k - 1) c, div-add-mod (i - 1) c)
 
 -- the two ends of a line may change places
 swapped : {mark from to : Point} → IsOff 8 mark from to → IsOff 8 mark to from
-swapped (inl both) = inl (both.1, both.0)
-swapped (inr (inl both)) = inr (inl (both.1, both.0))
-swapped (inr (inr (inl both))) = inr (inr (inl (both.1, both.0)))
-swapped (inr (inr (inr both))) = inr (inr (inr (both.1, both.0)))
+swapped off = grind arith
 
 -- half a column before a receive no mark stands
 upright : (a b mark_y y1 y2 : ℕ)
     → IsOff 8 (record { x = 110 + 52 * a; y = mark_y }) (record { x = 110 + 52 * b - 26; y = y1 }) (record { x = 110 + 52 * b - 26; y = y2 })
-upright a b mark_y y1 y2 = elim (cases_lt a b) [
-  | inl less ↦ inl (omega arith, omega arith)
-  | inr more ↦ inr (inl (omega arith, omega arith))
-]
+upright a b mark_y y1 y2 = grind arith
 
 -- Of a run of n processes: a mark on lane q, from 0, of row r, and column a; and what lies in row t.
 module _ (n high : ℕ) (tall : high ≡ 88 * n + 20) (r q a : ℕ) (among : q + 1 ≤ n) (t : ℕ) where
@@ -65,27 +50,17 @@ module _ (n high : ℕ) (tall : high ≡ 88 * n + 20) (r q a : ℕ) (among : q +
   between : (b x1 y1 x2 y2 : ℕ) → b + 1 ≤ n → IsOrdered r t
       → 80 + t * high + 88 * b + 22 ≤ y1 → y1 ≤ 80 + t * high + 88 * b + 66 → 80 + t * high + 88 * b + 22 ≤ y2 → y2 ≤ 80 + t * high + 88 * b + 66
       → IsOff 8 mark (record { x = x1; y = y1 }) (record { x = x2; y = y2 })
-  between b x1 y1 x2 y2 few (inl above) low1 up1 low2 up2 =
-      let up = over high r t above in
-      inr (inr (inl (omega (arith, up), omega (arith, up))))
-  between b x1 y1 x2 y2 few (inr (inl below)) low1 up1 low2 up2 =
-      let down = over high t r below in
-      inr (inr (inr (omega (arith, down), omega (arith, down))))
-  between b x1 y1 x2 y2 few (inr (inr same)) low1 up1 low2 up2 =
-      let level = ap (λ k. k * high) same in
-      elim (cases_lt b q) [
-        | inl under ↦ inr (inr (inr (omega (arith, level, under), omega (arith, level, under))))
-        | inr over ↦ inr (inr (inl (omega (arith, level, over), omega (arith, level, over))))
-      ]
+  between b x1 y1 x2 y2 few (inl above) low1 up1 low2 up2 = grind (arith, over high r t above)
+  between b x1 y1 x2 y2 few (inr (inl below)) low1 up1 low2 up2 = grind (arith, over high t r below)
+  between b x1 y1 x2 y2 few (inr (inr same)) low1 up1 low2 up2 = grind (arith, ap (λ k. k * high) same)
 
   -- a line of half a column at an event of column b, on lane s
   steep : (b s x y : ℕ) → s + 1 ≤ n → (r < t) ⊎ ((t < r) ⊎ ((a < b) ⊎ (b < a)))
       → 110 + 52 * b ≤ x + 26 → x ≤ 110 + 52 * b + 26 → 80 + t * high + 88 * s ≤ y + 22 → y ≤ 80 + t * high + 88 * s + 44
       → IsOff 8 mark (record { x = 110 + 52 * b; y = 80 + t * high + 88 * s }) (record { x = x; y = y })
-  steep b s x y few (inl above) left right low up = let up = over high r t above in inr (inr (inl (omega (arith, up), omega (arith, up))))
-  steep b s x y few (inr (inl below)) left right low up = let down = over high t r below in inr (inr (inr (omega (arith, down), omega (arith, down))))
-  steep b s x y few (inr (inr (inl less))) left right low up = inl (omega arith, omega arith)
-  steep b s x y few (inr (inr (inr more))) left right low up = inr (inl (omega arith, omega arith))
+  steep b s x y few (inl above) left right low up = grind (arith, over high r t above)
+  steep b s x y few (inr (inl below)) left right low up = grind (arith, over high t r below)
+  steep b s x y few (inr (inr beside)) left right low up = grind arith
 
 -- the side is that of the receiver
 abbrev pub Suits : Side → ℕ → ℕ → Type 0
@@ -93,14 +68,8 @@ Suits Below s p = s < p
 Suits Above s p = p < s
 Suits Own s p = s ≡ p
 
-suits_by : (same below : Bool) (s p : ℕ) → nat_eq s p ≡ same → nat_lt s p ≡ below
-    → Suits (if same then Own else (if below then Below else Above)) s p
-suits_by true below s p a b = grind (arith, nat_tests)
-suits_by false true s p a b = grind (arith, nat_tests)
-suits_by false false s p a b = grind (arith, nat_tests)
-
 suits : (s p : ℕ) → Suits (side_of s p) s p
-suits s p = suits_by (nat_eq s p) (nat_lt s p) s p refl refl
+suits s p = grind (arith, common_steps, nat_tests)
 
 -- The ways, where the mark is at position k on lane q.
 module _ (n high c r : ℕ) (tall : high ≡ 88 * n + 20) (k q : ℕ) (late : 1 ≤ k) (among : IsOneOf n q) where

@@ -10,12 +10,16 @@ use Rattle.cdb_streams.specs.Streams.{Stream}
 use Rattle.cdb_streams.specs.declared.buffer.OutputFault.{OutputFault}
 use Rattle.cdb_streams.specs.declared.buffer.OutputFault.TheVariants.{NoMemory}
 use Rattle.cdb_streams.proofs.PiecesPut.{cut_at_item, cut_short, put_last, put_more, put_nothing, puts_nothing}
-use Rattle.cdb_draw.proofs.GrownTexts.{each_more}
+use Rattle.cdb_any_run.proofs.OpenCopies.{flat_map-more}
 
 take_range : (a i n : ℕ) → i ≤ n → take i (range_with_len a n) ≡ range_with_len a i
 take_range a i n h = simp map-id at (take-map-range_with_len (λ (k : ℕ). k) a n i h)
 
 module _ {W : Type 0} (stream : W → Stream) where
+  -- nothing of a text is put
+  pub nothing : (out : W) (held text : List ℕ) → PutsBeginning stream out held out held text
+  nothing = puts_nothing stream
+
   -- one text after the other
   pub more : {old now new : W} {held middle left first second : List ℕ}
       → IsPut stream old held now middle first → IsPut stream now middle new left second → IsPut stream old held new left (first ++ second)
@@ -36,7 +40,7 @@ module _ {W : Type 0} (stream : W → Stream) where
   pub put_one : (texts : ℕ → List ℕ) {old now new : W} {held middle left : List ℕ} (a i : ℕ) {k : ℕ}
       → k ≡ a + i → IsPut stream old held now middle (flat_map texts (range_with_len a i))
       → IsPut stream now middle new left (texts k) → IsPut stream old held new left (flat_map texts (range_with_len a (i + 1)))
-  put_one texts a i here before one = rw (each_more texts a i) (put_more stream _ _ _ _ _ _ _ _ before (rw here at one))
+  put_one texts a i here before one = rw (flat_map-more texts a i) (put_more stream _ _ _ _ _ _ _ _ before (rw here at one))
 
   -- the text of one number is cut short
   pub cut_one : (A : Type 0) (why : OutputFault) (texts : ℕ → List ℕ) {old now : W} (new : W) {held middle : List ℕ} (left : List ℕ) (a n i : ℕ) {k : ℕ}

@@ -85,33 +85,19 @@ abbrev pub carried_text : Option Payload → List ℕ
 carried_text None = []
 carried_text (Some payload) = value_text (value_of payload)
 
--- what a step did, and with which value or round
-
-abbrev pub deed_word : Deed → List ℕ
-deed_word (Votes source leader by) = codes "votes"
-deed_word (VotesNone by) = codes "votes"
-deed_word (Settles source by) = codes "settles"
-deed_word (Adopts source by) = codes "adopts"
-deed_word (Keeps value by) = codes "keeps"
-deed_word (Learns source) = codes "learns"
-deed_word (SettlesRegister value register) = codes "settles"
-deed_word (SettlesInput value) = codes "settles"
-deed_word (GivesUp round register) = codes "gives up"
-deed_word (Carries round) = codes "carries"
-deed_word did = []
-
-abbrev pub deed_with : Deed → List ℕ
-deed_with (Votes source leader by) = decimal source.value
-deed_with (VotesNone by) = codes "none"
-deed_with (Settles source by) = decimal source.value
-deed_with (Adopts source by) = decimal source.value
-deed_with (Keeps value by) = decimal value
-deed_with (Learns source) = decimal source.value
-deed_with (SettlesRegister value register) = decimal value
-deed_with (SettlesInput value) = decimal value
-deed_with (GivesUp round register) = codes "round " ++ decimal round
-deed_with (Carries round) = codes "round " ++ decimal round
-deed_with did = []
+-- what a step did, in a word, and with which value or round
+abbrev pub deed_texts : Deed → List ℕ × List ℕ
+deed_texts (Votes source leader by) = (codes "votes", decimal source.value)
+deed_texts (VotesNone by) = (codes "votes", codes "none")
+deed_texts (Settles source by) = (codes "settles", decimal source.value)
+deed_texts (Adopts source by) = (codes "adopts", decimal source.value)
+deed_texts (Keeps value by) = (codes "keeps", decimal value)
+deed_texts (Learns source) = (codes "learns", decimal source.value)
+deed_texts (SettlesRegister value register) = (codes "settles", decimal value)
+deed_texts (SettlesInput value) = (codes "settles", decimal value)
+deed_texts (GivesUp round register) = (codes "gives up", codes "round " ++ decimal round)
+deed_texts (Carries round) = (codes "carries", codes "round " ++ decimal round)
+deed_texts did = ([], [])
 
 -- the first row: the value, the leader, or what a step by itself did
 
@@ -119,8 +105,8 @@ abbrev pub event_below : MailState → Deed → Event → List ℕ
 event_below mail did (Step p k (Query leader)) = codes "leader " ++ decimal leader
 event_below mail did (Step p k (Send m)) = carried_text (payload_of mail (message_name p m))
 event_below mail did (Step p k (Recv s m)) = carried_text (payload_of mail (message_name s m))
-event_below mail did (Step p k Local) = deed_word did
-event_below mail did (Step p k Learn) = deed_word did
+event_below mail did (Step p k Local) = (deed_texts did).0
+event_below mail did (Step p k Learn) = (deed_texts did).0
 event_below mail did event = []
 
 -- a decision has its value there, a ring round the mark, and `decides` above it
@@ -160,8 +146,8 @@ tick_text (Some round) = codes "<path d='M-15,-5v10'/>"
 -- the second row: that round, or with what a step by itself did what it did
 
 abbrev pub event_note : Deed → Event → List ℕ
-event_note did (Step p k Local) = deed_with did
-event_note did (Step p k Learn) = deed_with did
+event_note did (Step p k Local) = (deed_texts did).1
+event_note did (Step p k Learn) = (deed_texts did).1
 event_note did event = []
 
 abbrev pub note_text : Option ℕ → Deed → Event → List ℕ

@@ -10,7 +10,7 @@ ghost use Rattle.cdb_draw.specs.Ways.{broken_way, whole_way};
 ghost use Rattle.cdb_streams.specs.PiecesPut.{Puts};
 
 use crate::layout::{Grid, Point, end_x, lane_y, register_y, row_of, spot, x_of};
-use crate::piece::Piece::{Between, Text};
+use crate::piece::Piece::{At, Text};
 use crate::piece::{Piece, put_each};
 use crate::sends::{Sends, Takes, position_of_send};
 use crate::waits::put_on_way;
@@ -28,7 +28,7 @@ fn whole_arrow(
     side: Side,
     from: Point,
     to: Point,
-) -> [Piece<'static>; 16]
+) -> [Piece<'static>; 11]
     requires from { IsOnPage from }
     requires to { IsOnPage to }
     ensures { pieces_text result ≡ arrow_text class.now weight (whole_way side from to) }
@@ -40,16 +40,11 @@ fn whole_arrow(
         Text(" "),
         Text(weight.class()),
         Text("' d='"),
-        Text("M"),
-        Between(from.x, ",", from.y),
-        Text("L"),
-        Between(near, ",", leaving(side, from.y)),
-        Text("L"),
-        Between(before, ",", passing(side, from.y)),
-        Text("L"),
-        Between(before, ",", coming(side, to.y)),
-        Text("L"),
-        Between(to.x, ",", to.y),
+        At("M", from.x, from.y),
+        At("L", near, leaving(side, from.y)),
+        At("L", before, passing(side, from.y)),
+        At("L", before, coming(side, to.y)),
+        At("L", to.x, to.y),
         Text("'/>\n"),
     ]
 }
@@ -64,7 +59,7 @@ fn broken_arrow(
     from: Point,
     lane: usize,
     to: Point,
-) -> [Piece<'static>; 20]
+) -> [Piece<'static>; 13]
     requires from { IsOnPage from }
     requires lane { 80 ≤ lane }
     requires within { lane ≤ 820_001_000 }
@@ -79,20 +74,13 @@ fn broken_arrow(
         Text(" "),
         Text(weight.class()),
         Text("' d='"),
-        Text("M"),
-        Between(from.x, ",", from.y),
-        Text("L"),
-        Between(near, ",", leaving(side, from.y)),
-        Text("L"),
-        Between(edge, ",", passing(side, from.y)),
-        Text("M"),
-        Between(72, ",", leaving(side, lane)),
-        Text("L"),
-        Between(before, ",", passing(side, lane)),
-        Text("L"),
-        Between(before, ",", coming(side, to.y)),
-        Text("L"),
-        Between(to.x, ",", to.y),
+        At("M", from.x, from.y),
+        At("L", near, leaving(side, from.y)),
+        At("L", edge, passing(side, from.y)),
+        At("M", 72, leaving(side, lane)),
+        At("L", before, passing(side, lane)),
+        At("L", before, coming(side, to.y)),
+        At("L", to.x, to.y),
         Text("'/>\n"),
     ]
 }
@@ -105,7 +93,7 @@ fn upright_arrow(
     x: usize,
     from: usize,
     to: usize,
-) -> [Piece<'static>; 10]
+) -> [Piece<'static>; 8]
     ensures { pieces_text result ≡ arrow_text class.now weight (upright x from to) }
 {
     [
@@ -114,10 +102,8 @@ fn upright_arrow(
         Text(" "),
         Text(weight.class()),
         Text("' d='"),
-        Text("M"),
-        Between(x, ",", from),
-        Text("L"),
-        Between(x, ",", to),
+        At("M", x, from),
+        At("L", x, to),
         Text("'/>\n"),
     ]
 }

@@ -2,7 +2,7 @@
 
 ghost use Rattle.std.specs.Prelude.{◌≡◌, ◌≤◌, [], option_copied, string_bytes};
 ghost use Rattle.cdb_draw.specs.EventMarks.{begun, below_place, below_text, carried_text, decided_text};
-ghost use Rattle.cdb_draw.specs.EventMarks.{deed_with, deed_word, first_row};
+ghost use Rattle.cdb_draw.specs.EventMarks.{deed_texts, first_row};
 ghost use Rattle.cdb_draw.specs.EventMarks.{kind_with, kind_word, lane_of, mark_text, marked_text, note_text};
 ghost use Rattle.cdb_draw.specs.EventMarks.{second_row, shape_of, third_row, tick_text, value_of};
 ghost use Rattle.cdb_draw.specs.Layout.{IsGrid};
@@ -147,39 +147,23 @@ fn carried<T: Runs>(run: &T, name: MsgName) -> Piece<'static>
     }
 }
 
-/// What a step did, in a word.
-fn deed_word(deed: &Deed) -> &'static str
-    ensures { result.now ≡ deed_word deed.now }
+/// What a step did, in a word, and with which value or round.
+fn deed_texts(deed: &Deed) -> (&'static str, Piece<'static>)
+    ensures word { result.0.now ≡ (deed_texts deed.now).0 }
+    ensures number { piece_text result.1 ≡ (deed_texts deed.now).1 }
 {
     match deed {
-        Deed::Nothing | Deed::Round(_) => "",
-        Deed::Votes { .. } | Deed::VotesNone { .. } => "votes",
-        Deed::Settles { .. } | Deed::SettlesRegister { .. } | Deed::SettlesInput(_) => "settles",
-        Deed::Adopts { .. } => "adopts",
-        Deed::Keeps { .. } => "keeps",
-        Deed::Learns(_) => "learns",
-        Deed::GivesUp { .. } => "gives up",
-        Deed::Carries(_) => "carries",
-    }
-}
-
-/// With which value or round it did it.
-fn deed_with(deed: &Deed) -> Piece<'static>
-    ensures { piece_text result ≡ deed_with deed.now }
-{
-    match deed {
-        Deed::Nothing | Deed::Round(_) => Text(""),
-        Deed::VotesNone { .. } => Text("none"),
-        Deed::Votes { source, .. } | Deed::Settles { source, .. } | Deed::Adopts { source, .. } => {
-            Number(source.value.number() as usize)
-        }
-        Deed::Learns(source) => Number(source.value.number() as usize),
-        Deed::Keeps { value, .. } | Deed::SettlesRegister { value, .. } => {
-            Number(value.number() as usize)
-        }
-        Deed::SettlesInput(value) => Number(value.number() as usize),
-        Deed::GivesUp { round, .. } => After("round ", *round as usize),
-        Deed::Carries(round) => After("round ", *round as usize),
+        Deed::Nothing | Deed::Round(_) => ("", Text("")),
+        Deed::Votes { source, .. } => ("votes", value(Some(source.value))),
+        Deed::VotesNone { .. } => ("votes", Text("none")),
+        Deed::Settles { source, .. } => ("settles", value(Some(source.value))),
+        Deed::Adopts { source, .. } => ("adopts", value(Some(source.value))),
+        Deed::Keeps { value: kept, .. } => ("keeps", value(Some(*kept))),
+        Deed::Learns(source) => ("learns", value(Some(source.value))),
+        Deed::SettlesRegister { value: held, .. } => ("settles", value(Some(*held))),
+        Deed::SettlesInput(input) => ("settles", value(Some(*input))),
+        Deed::GivesUp { round, .. } => ("gives up", After("round ", *round as usize)),
+        Deed::Carries(round) => ("carries", After("round ", *round as usize)),
     }
 }
 
@@ -196,7 +180,7 @@ fn below<T: Runs>(run: &T, deed: &Deed, event: &Event, decided: Option<Val>) -> 
             Kind::Query(leader) => After("leader ", usize::from(leader.number())),
             Kind::Send(m) => carried(run, MsgName { s: p, m }),
             Kind::Recv(s, m) => carried(run, MsgName { s, m }),
-            Kind::Local | Kind::Learn => Text(deed_word(deed)),
+            Kind::Local | Kind::Learn => Text(deed_texts(deed).0),
             _ => Text(""),
         },
         Event::Lost(_) => Text(""),
@@ -261,7 +245,7 @@ fn note(round: Option<u32>, deed: &Deed, event: &Event) -> Piece<'static>
         Event::Step {
             kind: Kind::Local | Kind::Learn,
             ..
-        } => deed_with(deed),
+        } => deed_texts(deed).1,
         _ => Text(""),
     }
 }
@@ -329,37 +313,9 @@ fn mark<'a, T: Runs>(
     ]
 }
 
-/// Puts the mark of the last event of a run, which stands at a position, from 1. Its whole text is made in `whole`.
-#[tactic(auto, using(cdb_streams::proofs::PiecesPut::puts_nothing))]
-fn put_marked<T: Runs, W: Sink>(
-    alloc: Global,
-    grid: Grid,
-    deed: &Deed,
-    run: &T,
-    weight: Weight,
-    position: usize,
-    event: &Event,
-    whole: &mut String,
-    buffer: &mut Buffer,
-    out: &mut W,
-) -> Result<(), OutputFault>
-    requires grid { IsGrid grid }
-    requires position { position ≤ MAX_ENTRIES }
-    ensures { Puts W.stream result out.old buffer.old out.new buffer.new
-        (marked_text T.rules grid deed.now (T.run run.now) weight position event.now
-        (whole_text T.rules Shown (T.run run.now) deed.now (T.run run.now) event.now)) }
-{
-    whole.clear();
-    push_whole(alloc, whole, Causes::Shown, deed, run, event)?;
-    put_each(
-        &mark(grid, deed, run, weight, position, event, whole.as_str()),
-        buffer,
-        out,
-    )
-}
-
-/// Puts the mark of the last event of a run, and what the event left in a register.
-#[tactic(auto, using(crate::proofs::Parted::cut_before, crate::proofs::Parted::then))]
+/// Puts the mark of the last event of a run, which stands at a position, from 1, and what the event left in a register.
+/// Its whole text is made in `whole`.
+#[tactic(auto, using(crate::proofs::Parted::cut_before, crate::proofs::Parted::then, crate::proofs::Parted::nothing))]
 pub(crate) fn put_mark<T: Runs, W: Sink>(
     alloc: Global,
     grid: Grid,
@@ -377,8 +333,12 @@ pub(crate) fn put_mark<T: Runs, W: Sink>(
     ensures { Puts W.stream result out.old buffer.old out.new buffer.new
         (mark_text T.rules grid (T.run run.now) deed.now (T.run run.now) weight position event.now) }
 {
-    put_marked(
-        alloc, grid, deed, run, weight, position, event, whole, buffer, out,
+    whole.clear();
+    push_whole(alloc, whole, Causes::Shown, deed, run, event)?;
+    put_each(
+        &mark(grid, deed, run, weight, position, event, whole.as_str()),
+        buffer,
+        out,
     )?;
     put_written(grid, run, weight, position, event, buffer, out)
 }

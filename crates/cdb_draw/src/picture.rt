@@ -1,14 +1,12 @@
 //! The picture of a run: lanes, the arrows of all events, and then their marks.
 
 ghost use Rattle.std.specs.Prelude.{◌≡◌, [], ◌≤◌, length};
-ghost use Rattle.cdb_causal.specs.StandingEvents.{IsStanding};
 ghost use Rattle.cdb_draw.specs.Arrows.{arrow_at};
 ghost use Rattle.cdb_draw.specs.EventMarks.{mark_at};
 ghost use Rattle.cdb_draw.specs.Layout.{IsGrid};
 ghost use Rattle.cdb_draw.specs.Picture.{arrows_text, document_text, head_text, heading_text, marks_text, picture_text};
 ghost use Rattle.cdb_draw.specs.Pieces.{piece_text, pieces_text};
 ghost use Rattle.cdb_draw.specs.Sends.{AreSendsOf, AreTakesOf};
-ghost use Rattle.cdb_explain.specs.Explanations.{deed_at, run_after};
 ghost use Rattle.cdb_streams.specs.PiecesPut.{Puts};
 ghost use Rattle.cdb_streams.specs.Endings.{pieces_ending};
 ghost use Rattle.cdb_streams.specs.Written.{IsWritten, Only};
@@ -20,11 +18,11 @@ use crate::layout::{Grid, height, width};
 use crate::mark::put_mark;
 use crate::piece::Piece::{After, Number, Text};
 use crate::piece::{Piece, put_each};
-use crate::sends::{Sends, Takes, sends_of, takes_of};
+use crate::sends::{Sends, Takes, places_of};
 use crate::style::{NAMESPACE, SHAPES, STYLE};
 use crate::weight::Weight;
 use cdb_base::limits::MAX_ENTRIES;
-use cdb_deeds::{Deed, HasDeeds, ReceivedNames};
+use cdb_deeds::{HasDeeds, ReceivedNames};
 use cdb_explain::{fresh, take_next};
 use cdb_rules::{Runs, Trace};
 use cdb_setup::Algorithm;
@@ -74,35 +72,6 @@ fn head(grid: Grid, run: &Trace) -> [Piece<'static>; 13]
     document(width(grid), height(grid), heading)
 }
 
-/// Puts the arrow of the event at a position, from 1.
-fn put_arrow_at<W: Sink>(
-    grid: Grid,
-    run: &Trace,
-    sends: &Sends,
-    takes: &Takes,
-    weights: &[Weight],
-    position: usize,
-    buffer: &mut Buffer,
-    out: &mut W,
-) -> Result<(), OutputFault>
-    requires grid { IsGrid grid }
-    requires few { length run.now.history ≤ MAX_ENTRIES }
-    requires a_weight_each { length weights.now ≡ length run.now.history }
-    requires from_one { 1 ≤ position }
-    requires to_len { position ≤ length run.now.history }
-    requires sends { AreSendsOf sends.now run.now.history }
-    requires takes { AreTakesOf takes.now run.now.history }
-    ensures { Puts W.stream result out.old buffer.old out.new buffer.new
-        (arrow_at grid run.now.history weights.now position) }
-{
-    let events = run.events();
-    let event = &events[position - 1];
-    let weight = weights[position - 1];
-    put_arrow(
-        grid, events, sends, takes, weight, position, event, buffer, out,
-    )
-}
-
 /// Puts the arrows of all events.
 #[tactic(auto, using(cdb_streams::proofs::PiecesPut::put_nothing, cdb_streams::proofs::PiecesPut::puts_nothing))]
 fn put_arrows<W: Sink>(
@@ -120,44 +89,22 @@ fn put_arrows<W: Sink>(
         (arrows_text grid run.now weights.now) }
 {
     let events = run.events();
-    let sends = sends_of(alloc, events)?;
-    let takes = takes_of(alloc, events)?;
+    let (sends, takes) = places_of(alloc, events)?;
     for i in 0..events.len() {
-        put_arrow_at(grid, run, &sends, &takes, weights, i + 1, buffer, out)?;
+        let event = &events[i];
+        put_arrow(
+            grid,
+            events,
+            &sends,
+            &takes,
+            weights[i],
+            i + 1,
+            event,
+            buffer,
+            out,
+        )?;
     }
     Ok(())
-}
-
-/// Puts the mark of the event at a position, from 1, which did that, and `after` is the run once it had come to it.
-fn put_mark_at<T: Runs, W: Sink>(
-    alloc: Global,
-    grid: Grid,
-    run: &Trace,
-    deed: &Deed,
-    after: &T,
-    weights: &[Weight],
-    position: usize,
-    whole: &mut String,
-    buffer: &mut Buffer,
-    out: &mut W,
-) -> Result<(), OutputFault>
-    requires grid { IsGrid grid }
-    requires few { length run.now.history ≤ MAX_ENTRIES }
-    requires a_weight_each { length weights.now ≡ length run.now.history }
-    requires from_one { 1 ≤ position }
-    requires to_len { position ≤ length run.now.history }
-    requires standing { IsStanding run.now.history }
-    requires did { deed.now ≡ deed_at run.now position }
-    requires after { T.run after.now ≡ run_after run.now position }
-    ensures { Puts W.stream result out.old buffer.old out.new buffer.new
-        (mark_at T.rules grid run.now weights.now position) }
-{
-    let events = run.events();
-    let event = &events[position - 1];
-    let weight = weights[position - 1];
-    put_mark(
-        alloc, grid, deed, after, weight, position, event, whole, buffer, out,
-    )
 }
 
 /// Puts the marks of all events. The run is played again, event by event, and asked when that is soonest answered.
@@ -188,14 +135,14 @@ fn put_marks<T: HasDeeds, W: Sink>(
         let deed = again.deed(alloc, &names, event)?;
         take_next(alloc, &mut again, event)?;
         names.add(event)?;
-        put_mark_at(
+        put_mark(
             alloc,
             grid,
-            run,
             &deed,
             &again,
-            weights,
+            weights[i],
             i + 1,
+            event,
             &mut whole,
             buffer,
             out,

@@ -56,17 +56,6 @@ fn note_event(sends: &mut Sends, event: &Event, position: usize) -> Result<(), N
     }
 }
 
-/// The positions of all sends of a history.
-pub(crate) fn sends_of(alloc: Global, events: &[Event]) -> Result<Sends, NoMemory>
-    ensures { IfOk result (λ sends. AreSendsOf sends events.now) }
-{
-    let mut sends = HashMap::new(alloc);
-    for i in 0..events.len() {
-        note_event(&mut sends, &events[i], i + 1)?;
-    }
-    Ok(sends)
-}
-
 /// The position at which a message was sent, from 1.
 pub(crate) fn position_of_send(sends: &Sends, name: MsgName) -> Option<usize>
     ensures { (history : List EventName) → AreSendsOf sends.now history →
@@ -115,15 +104,19 @@ fn note_take(takes: &mut Takes, event: &Event, position: usize) -> Result<(), No
     }
 }
 
-/// The positions at which the copies of a history were received or lost.
-pub(crate) fn takes_of(alloc: Global, events: &[Event]) -> Result<Takes, NoMemory>
-    ensures { IfOk result (λ takes. AreTakesOf takes events.now) }
+/// The positions of all sends of a history, and those at which its copies were received or lost.
+pub(crate) fn places_of(alloc: Global, events: &[Event]) -> Result<(Sends, Takes), NoMemory>
+    ensures sends { IfOk result (λ both. AreSendsOf both.0 events.now) }
+    ensures takes { IfOk result (λ both. AreTakesOf both.1 events.now) }
 {
+    let mut sends = HashMap::new(alloc);
     let mut takes = HashMap::new(alloc);
     for i in 0..events.len() {
-        note_take(&mut takes, &events[i], i + 1)?;
+        let event = &events[i];
+        note_event(&mut sends, event, i + 1)?;
+        note_take(&mut takes, event, i + 1)?;
     }
-    Ok(takes)
+    Ok((sends, takes))
 }
 
 /// The position at which a copy was received or lost, from 1.
