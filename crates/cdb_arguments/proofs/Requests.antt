@@ -5,7 +5,7 @@ use Rattle.std.proofs.lemmas.Result.{IfOk-weaker}
 use Rattle.clap.specs.Words.{subcommand_of, takes}
 use Rattle.clap.proofs.OnLiterals.{clap_on_literals}
 use Rattle.cdb_base.specs.Memory.{no_memory}
-use Rattle.cdb_base.specs.Requests.{RequestView, Script, Play, Race, Ask, Frames, Debug, Replay, Search, Shrink, Same, Clocks, Page, Text, asked_for}
+use Rattle.cdb_base.specs.Requests.{RequestView, Script, Play, Race, Ask, Frames, Debug, Replay, Search, Shrink, Same, Text, asked_for}
 use Rattle.cdb_base.specs.declared.request.Request.{Request}
 use Rattle.cdb_arguments.specs.RequestsOfRows.{NamesAsked, IsRequest}
 use Rattle.cdb_arguments.specs.CommandLine.{program}
@@ -48,12 +48,6 @@ line_taken words (Shrink setup script goal) line =
 line_taken words (Same setup first second) line =
     taken_line sub.Same (setup ∷ first ∷ second ∷ []) words _ line
     (record { passes = ((refl, refl, tt), refl, ((refl, refl, tt), refl, ((refl, refl, tt), refl, tt))); ends = (refl, refl, refl); only = λ asked is. is })
-line_taken words (Clocks setup script) line =
-    taken_line sub.Clocks (setup ∷ script ∷ []) words _ line
-    (record { passes = ((refl, refl, tt), refl, ((refl, refl, tt), refl, tt)); ends = (refl, refl, refl); only = λ asked is. is })
-line_taken words (Page setup script) line =
-    taken_line sub.Page (setup ∷ script ∷ []) words _ line
-    (record { passes = ((refl, refl, tt), refl, ((refl, refl, tt), refl, tt)); ends = (refl, refl, refl); only = λ asked is. is })
 
 -- a line of the table asks for what the table says
 pub plain_asked : (words : List Text) (result : Result Request ArgumentsFault)

@@ -6,7 +6,7 @@ use Rattle.clap.specs.Walk.{walk_from, nothing_held}
 use Rattle.clap.proofs.OnLiterals.{clap_on_literals}
 use Rattle.cdb_base.specs.Requests.{RequestView, Ask, Text}
 use Rattle.cdb_base.specs.declared.question.Question.{Question}
-use Rattle.cdb_base.specs.declared.question.Question.TheVariants.{Explain, Trail, Draw, Slice}
+use Rattle.cdb_base.specs.declared.question.Question.TheVariants.{Explain, Trail, Draw, Slice, Clocks, Page}
 use Rattle.cdb_base.specs.declared.question.StepAsked.{StepAsked}
 use Rattle.cdb_base.specs.Limits.{COLUMNS}
 use Rattle.cdb_arguments.specs.RequestsOfRows.{AsksStep, IsAnyStepIn, IsNumber, IsNumberOf, NamesAsked}
@@ -163,3 +163,9 @@ module _ (words : List Text) (setup script : Text) where
         ends = (refl, refl, refl);
         only = no_step (λ step. Slice step) setup script;
       })
+  question_line Clocks texts writes usual line =
+      taken_line sub.Clocks (setup ∷ script ∷ []) words _ (rw writes at line)
+      (record { passes = ((refl, refl, tt), refl, ((refl, refl, tt), refl, tt)); ends = (refl, refl, refl); only = λ asked is. is })
+  question_line Page texts writes usual line =
+      taken_line sub.Page (setup ∷ script ∷ []) words _ (rw writes at line)
+      (record { passes = ((refl, refl, tt), refl, ((refl, refl, tt), refl, tt)); ends = (refl, refl, refl); only = λ asked is. is })

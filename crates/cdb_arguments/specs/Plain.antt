@@ -5,9 +5,9 @@ use Rattle.std.specs.Str.Parse.{IsNumeral, digits_value, without_leading_plus}
 use Rattle.clap.specs.Lexer.{usize_max}
 use Rattle.cdb_base.specs.Limits.{COLUMNS, MAX_NUMBER, MAX_TURNS}
 use Rattle.cdb_base.specs.Requests.{RequestView, Script, Play, Race, Ask, Frames, Debug}
-use Rattle.cdb_base.specs.Requests.{Replay, Search, Shrink, Same, Clocks, Page, Text}
+use Rattle.cdb_base.specs.Requests.{Replay, Search, Shrink, Same, Text}
 use Rattle.cdb_base.specs.declared.question.Question.{Question}
-use Rattle.cdb_base.specs.declared.question.Question.TheVariants.{Explain, Trail, Draw, Slice}
+use Rattle.cdb_base.specs.declared.question.Question.TheVariants.{Explain, Trail, Draw, Slice, Clocks, Page}
 use Rattle.cdb_base.specs.declared.question.StepAsked.{StepAsked}
 
 -- a text that does not begin with a hyphen, so that it is no option
@@ -49,6 +49,8 @@ question_name (Explain step) = codes "explain"
 question_name (Trail step) = codes "trail"
 question_name (Draw columns step) = codes "draw"
 question_name (Slice step) = codes "slice"
+question_name Clocks = codes "clocks"
+question_name Page = codes "page"
 
 -- the step that it asks for, if it asks for one
 abbrev pub step_asked : Question → Option StepAsked
@@ -56,6 +58,8 @@ step_asked (Explain step) = Some step
 step_asked (Trail step) = Some step
 step_asked (Draw columns step) = step
 step_asked (Slice step) = step
+step_asked Clocks = None
+step_asked Page = None
 
 -- a picture has 20 columns to a row
 abbrev pub IsUsual : Question → Type 0
@@ -90,5 +94,3 @@ IsLine words (Search setup goal seed walks) =
     × IsSubcommandLine (codes "search") (setup ∷ goal ∷ first ∷ second ∷ []) words
 IsLine words (Shrink setup script goal) = IsSubcommandLine (codes "shrink") (setup ∷ script ∷ goal ∷ []) words
 IsLine words (Same setup first second) = IsSubcommandLine (codes "same") (setup ∷ first ∷ second ∷ []) words
-IsLine words (Clocks setup script) = IsSubcommandLine (codes "clocks") (setup ∷ script ∷ []) words
-IsLine words (Page setup script) = IsSubcommandLine (codes "page") (setup ∷ script ∷ []) words

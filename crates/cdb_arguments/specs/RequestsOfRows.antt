@@ -14,9 +14,9 @@ use Rattle.cdb_arguments.specs.declared.command_line.Subcommand.TheVariants as s
 use Rattle.cdb_arguments.specs.Plain.{WritesCount, WritesNumber}
 use Rattle.cdb_base.specs.Memory.{no_memory}
 use Rattle.cdb_base.specs.Requests.{RequestView, Script, Play, Race, Ask, Frames, Debug, Replay}
-use Rattle.cdb_base.specs.Requests.{Search, Shrink, Same, Clocks, Page, Text, asked_for}
+use Rattle.cdb_base.specs.Requests.{Search, Shrink, Same, Text, asked_for}
 use Rattle.cdb_base.specs.declared.question.Question.{Question}
-use Rattle.cdb_base.specs.declared.question.Question.TheVariants.{Explain, Trail, Draw, Slice}
+use Rattle.cdb_base.specs.declared.question.Question.TheVariants.{Explain, Trail, Draw, Slice, Clocks, Page}
 use Rattle.cdb_base.specs.declared.question.StepAsked.{StepAsked}
 use Rattle.cdb_base.specs.declared.request.Request.{Request}
 
@@ -95,8 +95,8 @@ AsksFor sub.Shrink rows asked =
     asked ≡ Shrink (text_at (codes "SETUP") rows) (text_at (codes "SCRIPT") rows) (text_at (codes "GOAL") rows)
 AsksFor sub.Same rows asked =
     asked ≡ Same (text_at (codes "SETUP") rows) (text_at (codes "FIRST") rows) (text_at (codes "SECOND") rows)
-AsksFor sub.Clocks rows asked = asked ≡ Clocks (text_at (codes "SETUP") rows) (text_at (codes "SCRIPT") rows)
-AsksFor sub.Page rows asked = asked ≡ Page (text_at (codes "SETUP") rows) (text_at (codes "SCRIPT") rows)
+AsksFor sub.Clocks rows asked = asked ≡ Ask (text_at (codes "SETUP") rows) (text_at (codes "SCRIPT") rows) Clocks
+AsksFor sub.Page rows asked = asked ≡ Ask (text_at (codes "SETUP") rows) (text_at (codes "SCRIPT") rows) Page
 
 -- the matches name a subcommand and ask for this, or they name none and ask for the script on standard input
 abbrev pub NamesAsked : Option (Text × List Row) → RequestView → Type 0

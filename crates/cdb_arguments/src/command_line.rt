@@ -12,7 +12,7 @@ use clap::{Arg, Command};
 use std::alloc::{AllocError, Global};
 
 /// The version that `--version` prints after the program's name.
-const VERSION: &str = "1.8.2";
+const VERSION: &str = "1.8.3";
 
 const ABOUT: &str =
     "A reversible debugger for consensus algorithms: plays the commands of a script on one run, and

@@ -240,26 +240,6 @@ fn same_of<'a>(found: &ArgMatches<'a>) -> Request<'a>
     }
 }
 
-/// The clocks of the run that a script leaves.
-fn clocks_of<'a>(found: &ArgMatches<'a>) -> Request<'a>
-    ensures { AsksFor sub.Clocks (rows_of (found_of found.now)) (asked_for result) }
-{
-    Request::Clocks {
-        setup: text_of(found, "SETUP"),
-        script: text_of(found, "SCRIPT"),
-    }
-}
-
-/// A page of the run of two files.
-fn page_of<'a>(found: &ArgMatches<'a>) -> Request<'a>
-    ensures { AsksFor sub.Page (rows_of (found_of found.now)) (asked_for result) }
-{
-    Request::Page {
-        setup: text_of(found, "SETUP"),
-        script: text_of(found, "SCRIPT"),
-    }
-}
-
 /// A script that is made small.
 fn shrink_of<'a>(found: &ArgMatches<'a>) -> Request<'a>
     ensures { AsksFor sub.Shrink (rows_of (found_of found.now)) (asked_for result) }
@@ -292,8 +272,8 @@ fn asked_under<'a>(
         "search" => Ok(search_of(found)),
         "shrink" => Ok(shrink_of(found)),
         "same" => Ok(same_of(found)),
-        "clocks" => Ok(clocks_of(found)),
-        "page" => Ok(page_of(found)),
+        "clocks" => Ok(question_of(found, Question::Clocks)),
+        "page" => Ok(question_of(found, Question::Page)),
         _ => race_of(alloc, found),
     }
 }

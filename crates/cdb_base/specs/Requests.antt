@@ -29,8 +29,6 @@ pub data RequestView : Type 0 where
   Search : (setup goal : Text) → (seed walks : ℕ) → RequestView
   Shrink : (setup script goal : Text) → RequestView
   Same : (setup first second : Text) → RequestView
-  Clocks : (setup script : Text) → RequestView
-  Page : (setup script : Text) → RequestView
 
 -- what a request asks for
 abbrev pub asked_for : Request → RequestView
@@ -45,5 +43,3 @@ asked_for (request.Replay setup journal) = Replay setup.now journal.now
 asked_for (request.Search setup goal seed walks) = Search setup.now goal.now seed walks
 asked_for (request.Shrink setup script goal) = Shrink setup.now script.now goal.now
 asked_for (request.Same setup first second) = Same setup.now first.now second.now
-asked_for (request.Clocks setup script) = Clocks setup.now script.now
-asked_for (request.Page setup script) = Page setup.now script.now

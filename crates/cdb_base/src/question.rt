@@ -23,4 +23,8 @@ pub enum Question {
     },
     /// A script that plays the run, or only what led to the step.
     Slice(Option<StepAsked>),
+    /// The clocks of the run.
+    Clocks,
+    /// The page of the run, for a browser.
+    Page,
 }

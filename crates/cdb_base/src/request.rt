@@ -68,14 +68,4 @@ pub enum Request<'a> {
         first: &'a str,
         second: &'a str,
     },
-    /// Writes the clocks of the run that a script leaves on a setup.
-    Clocks {
-        setup: &'a str,
-        script: &'a str,
-    },
-    /// Writes the page of the run that a script leaves on a setup.
-    Page {
-        setup: &'a str,
-        script: &'a str,
-    },
 }

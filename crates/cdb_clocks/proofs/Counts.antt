@@ -1,7 +1,7 @@
 -- A clock counts the steps that have led to its event.
-use Rattle.std.proofs.Common.{◌≡◌, ℕ, suc, ◌+◌, ◌<◌, ◌≤◌, ◌↔◌, inl, inr, ⊎_elim, Bool, true, List, length}
+use Rattle.std.proofs.Common.{◌≡◌, ℕ, suc, ◌+◌, ◌<◌, ◌≤◌, ◌↔◌, ⊎_elim, Bool, true, List, length}
 use Rattle.std.proofs.Common.{take, drop, filter, slice_get, Some, min, refl, ap, ◌∙◌, arith, length-append}
-use Rattle.std.proofs.lemmas.Bool.{cases_Bool, cases_lt, eqb-true}
+use Rattle.std.proofs.lemmas.Bool.{eqb-true}
 use Rattle.std.proofs.lemmas.List.{take-append-drop}
 use Rattle.std.proofs.lemmas.List.Elements.{filter-append}
 use Rattle.cdb_base.specs.Event.{is_step_of}
@@ -11,9 +11,8 @@ use Rattle.cdb_causal.proofs.Lists.{at_drop, drop_next}
 use Rattle.cdb_causal.specs.Dependence.{depends}
 use Rattle.cdb_causal.specs.Past.{HasLedTo, IsSlice}
 use Rattle.cdb_causal.specs.Rollback.{IsParted, done, kept, gone}
-use Rattle.cdb_clocks.proofs.Next.{next_fails, next_passes}
 use Rattle.cdb_clocks.specs.Clocks.{CountsLed, IsClock}
-use Rattle.cdb_same.proofs.Ranks.{number_is, rank}
+use Rattle.cdb_same.proofs.Ranks.{next_counted, next_passes, number_is, rank}
 use Rattle.cdb_standing.specs.Comparisons.{steps_by, AreNumbered}
 use Rattle.cdb_standing.specs.Cuts.{cut_of as count_of}
 
@@ -43,21 +42,15 @@ module _ (history : List Event) (q : ℕ) (numbered : AreNumbered q history) (at
   counted i events others led left (kept {event = event} {events = more} not parted) =
       let stands = at_drop history i event more left in
       let again = counted (suc i) more _ led (drop_next history i event more left) parted in
-      elim (cases_Bool (is_step_of q event)) [
-        | inl own ↦ let next = next_passes (is_step_of q) history i event stands own in
-            let beyond : n ≤ before i = ⊎_elim (λ few. absurd (not ((led_if_few i event stands own).0 few))) (λ beyond. beyond) (cases_lt (before i) n) in
-            rw own (omega (arith, again, next, beyond))
-        | inr other ↦ let next = next_fails (is_step_of q) history i event stands other in rw other (omega (arith, again, next))
-      ]
+      let next = next_counted (is_step_of q) history i event stands in
+      let few = led_if_few i event stands in
+      grind arith
   counted i events others led left (gone {event = event} {events = more} has parted) =
       let stands = at_drop history i event more left in
       let again = counted (suc i) more _ _ (drop_next history i event more left) parted in
-      elim (cases_Bool (is_step_of q event)) [
-        | inl own ↦ let next = next_passes (is_step_of q) history i event stands own in
-            let within = (led_if_few i event stands own).1 has in
-            rw own (omega (arith, again, next, within))
-        | inr other ↦ let next = next_fails (is_step_of q) history i event stands other in rw other (omega (arith, again, next))
-      ]
+      let next = next_counted (is_step_of q) history i event stands in
+      let few = led_if_few i event stands in
+      grind arith
 
   -- the number of a standing step is at most how many there are
   within_all : n ≤ length (steps_by q history)

@@ -15,15 +15,12 @@ use Rattle.cdb_rules.specs.RunView.{RunView}
 use Rattle.cdb_rules.specs.Rules.{Rules}
 use Rattle.cdb_setup.specs.Parts.{Parts}
 
-range_more : (a n : ℕ) → range_with_len a (n + 1) ≡ range_with_len a n ++ (a + n) ∷ []
-range_more a n = simp map-id at (map-range_with_len_more (λ (k : ℕ). k) a n (a + n) refl)
-
 module _ (rules : Parts → Rules) (run : RunView) (clocks : List (List ℕ)) (i : ℕ) where
   pub lines_more : first_lines rules run clocks (i + 1) ≡ first_lines rules run clocks i ++ lines_at rules run clocks (suc i)
   lines_more =
       let lines = lines_at rules run clocks in
-      let next : 1 + i ≡ suc i = omega arith in
-      rw (range_more 1 i, next, flat_map-append lines (range_with_len 1 i) (suc i ∷ []), append-nil (lines (suc i))) refl
+      let next = simp map-id at (map-range_with_len_more (λ (k : ℕ). k) 1 i (suc i) (omega arith)) in
+      rw (next, flat_map-append lines (range_with_len 1 i) (suc i ∷ []), append-nil (lines (suc i))) refl
 
   -- the lines of the next event, by its line and its clock
   pub its_lines : (event : Event) (clock : List ℕ) (after : RunView) (did : Deed) → slice_get run.history i ≡ Some event → slice_get clocks i ≡ Some clock

@@ -1,9 +1,8 @@
 -- The rows once the clock of the next step has been added.
-use Rattle.std.proofs.Common.{◌≡◌, ℕ, suc, ◌+◌, ◌≤◌, ◌⊎◌, inl, inr, Bool, true, false, List, [], ◌∷◌, ◌++◌, length, cond}
-use Rattle.std.proofs.Common.{slice_get, Some, sym, ap, ◌∙◌, subst, arith, add-one}
+use Rattle.std.proofs.Common.{◌≡◌, ℕ, suc, ◌+◌, ◌≤◌, ◌⊎◌, inl, inr, List, [], ◌∷◌, ◌++◌, length, cond}
+use Rattle.std.proofs.Common.{Some, sym, ap, ◌∙◌, arith}
 use Rattle.std.proofs.lemmas.Grind.{common_steps}
-use Rattle.std.proofs.lemmas.List.Filters.{length-filter_more}
-use Rattle.std.proofs.lemmas.Option.{get_or_from_slice_get, gets, same_Some, slice_get_within}
+use Rattle.std.proofs.lemmas.Option.{gets, same_Some}
 use Rattle.cdb_base.specs.Event.{is_step_of}
 use Rattle.cdb_base.specs.Positions.{nth}
 use Rattle.cdb_base.specs.declared.event.Event.{Event}
@@ -12,22 +11,9 @@ use Rattle.cdb_base.specs.declared.event.Kind.{Kind}
 use Rattle.cdb_base.specs.declared.name.CopyName.{CopyName}
 use Rattle.cdb_clocks.specs.Clocks.{IsClock}
 use Rattle.cdb_clocks.specs.Rows.{AreKept}
-use Rattle.cdb_same.proofs.Ranks.{its_own, number_is, rank}
+use Rattle.cdb_same.proofs.Ranks.{its_own, next_counted, next_passes, number_is}
 use Rattle.cdb_same.specs.Comparisons.{AreNumberedUpTo, IsComparable}
 use Rattle.cdb_standing.specs.Tables.{row_of, IsPutOn}
-
-module _ {E : Type 0} (test : E → Bool) (xs : List E) (i : ℕ) (x : E) (stands : slice_get xs i ≡ Some x) where
-  pub next_counted : rank test xs (suc i) ≡ rank test xs i + cond (test x) 1 0
-  next_counted =
-      subst (λ (n : ℕ). rank test xs n ≡ rank test xs i + cond (test x) 1 0) (add-one i)
-      (length-filter_more test xs i x (slice_get_within xs i x stands)
-      ∙ ap (λ y. rank test xs i + cond (test y) 1 0) (get_or_from_slice_get xs i x x stands))
-
-  pub next_passes : test x ≡ true → rank test xs (suc i) ≡ suc (rank test xs i)
-  next_passes passes = let more = rw passes at next_counted in omega (arith, more)
-
-  pub next_fails : test x ≡ false → rank test xs (suc i) ≡ rank test xs i
-  next_fails fails = let more = rw fails at next_counted in omega (arith, more)
 
 pub last_position : (at end : ℕ) → at ≤ suc end → (at ≤ end) ⊎ (at ≡ suc end)
 last_position at end few = grind arith

@@ -1,7 +1,7 @@
 -- A clock that is raised to those of the direct causes of a step.
 use Rattle.std.proofs.Common.{◌≡◌, ℕ, suc, ◌<◌, ◌≤◌, ◌↔◌, ◌⊎◌, inl, inr, List, [], ◌∷◌, ◌++◌}
 use Rattle.std.proofs.Common.{Some, length, slice_set, replicate, max, refl, sym, ap, ◌∙◌, subst, arith}
-use Rattle.std.proofs.lemmas.Bool.{cases_eq}
+use Rattle.std.proofs.lemmas.Bool.{cases_eq, cases_lt}
 use Rattle.std.proofs.lemmas.Grind.{common_steps}
 use Rattle.std.proofs.lemmas.Option.{gets, none-some}
 use Rattle.cdb_base.specs.Event.{event_name}
@@ -24,13 +24,12 @@ use Rattle.cdb_same.proofs.Counted.{count_other, count_set, none_counted}
 use Rattle.cdb_same.proofs.Ranks.{from_one, in_order}
 use Rattle.cdb_same.specs.Comparisons.{AreNumberedUpTo, IsComparable}
 use Rattle.cdb_standing.specs.Cuts.{cut_of as count_of}
+use Rattle.cdb_standing.specs.Moves.{HasStep}
 use Rattle.cdb_standing.specs.Tables.{row_of}
 
-above_either : (l a b m : ℕ) → m ≡ max a b → l ≤ m → (l ≤ a) ⊎ (l ≤ b)
-above_either l a b m is less = grind arith
-
-one_of : (a b m : ℕ) → m ≡ max a b → (m ≡ a) ⊎ (m ≡ b)
-one_of a b m is = grind arith
+-- the greater one is one of both
+one_of : (Holds : ℕ → Type 0) (a b m : ℕ) → m ≡ max a b → Holds a → Holds b → Holds m
+one_of Holds a b m is one other = elim (cases_lt a b) [ inl less ↦ subst Holds (omega arith) other | inr more ↦ subst Holds (omega arith) one ]
 
 module _ (history : List Event) (comparable : IsComparable history) (numbered : AreNumberedUpTo history 9) where
   its_order : (at other q l k : ℕ) (kind its : Kind) → nth history at ≡ Some (Step q l kind) → nth history other ≡ Some (Step q k its) → (l ≤ k) ↔ (at ≤ other)
@@ -62,22 +61,21 @@ module _ (history : List Event) (comparable : IsComparable history) (numbered : 
         let name : StepId = named.Step (record { p = p; k = k }) in
         record {
           only = λ other q l its stands few.
-              elim (above_either l (count_of clock q) (count_of own.0 q) (count_of new q) (is q) few) [
-                | inl old ↦ so_far.only other q l its stands old
-                | inr more ↦ led_then history y (suc end) other (((own.2 q).led other l its stands).0 more) (inr (one_link direct.link))
-              ];
+              let old = so_far.only other q l its stands in
+              let led = (own.2 q).led other l its stands in
+              let then : HasLedTo depends history y other → HasLedTo depends history (suc end) other =
+              λ led. led_then history y (suc end) other led (inr (one_link direct.link)) in
+              let most = is q in
+              grind arith;
           each = λ i cause other_name get is_named other q l its stands led.
+              let most = is q in
               elim (push_cases names name other_name i get) [
-                | inl front ↦ let counted = so_far.each i cause other_name front.0 is_named other q l its stands led in rw (is q) (omega (arith, counted))
+                | inl front ↦ let counted = so_far.each i cause other_name front.0 is_named other q l its stands led in omega arith
                 | inr back ↦ let same = comparable.standing.names_differ cause y other_name is_named (Step p k kind, at_y, back.0) in
                     let counted = ((own.2 q).led other l its stands).1 (rw same at led) in
-                    rw (is q) (omega (arith, counted))
+                    omega arith
               ];
-          last = λ q.
-              elim (one_of (count_of clock q) (count_of own.0 q) (count_of new q) (is q)) [
-                | inl old ↦ rw old (so_far.last q)
-                | inr more ↦ rw more (own.2 q).last
-              ];
+          last = λ q. one_of (λ n. (n ≡ 0) ⊎ HasStep history q n) (count_of clock q) (count_of own.0 q) (count_of new q) (is q) (so_far.last q) (own.2 q).last;
         }
 
     -- the clock is raised to that of one direct cause more

@@ -12,8 +12,8 @@ ghost use Rattle.cdb_standing.specs.Comparisons.{steps_by, AreNumbered};
 ghost use Rattle.cdb_standing.specs.Cuts.{cut_of as count_of};
 
 /// A clock has of each process how many of its steps are among the events that have led to its event, where the steps
-/// of the
-/// process are numbered in their order, as every history has them.
+/// of the process are numbered in their order, as every history has them.
+#[tactic(auto, using(crate::proofs::Counts::clock_counts))]
 pub fn clock_counts_steps()
     ensures { (history : List Event) (at q : ℕ) (clock : List ℕ) (led others : List Event) →
         AreNumbered q history → IsClock history at clock → IsSlice depends history at led others →

@@ -8,12 +8,10 @@ pub mod Reports
 pub mod Plays
 pub mod Races
 pub mod Questions
-pub mod PageFiles
 pub mod FrameFiles
 pub mod Replays
 pub mod Searches
 pub mod Comparisons
-pub mod Clocks
 pub mod Answers
 pub mod Beginnings
 pub mod DebugSessions

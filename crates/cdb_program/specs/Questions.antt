@@ -1,10 +1,12 @@
 -- What a request does that answers a question of the run that a script leaves.
 use Rattle.std.specs.Prelude.{ℕ, List, [], ◌∷◌}
 use Rattle.cdb_base.specs.declared.question.Question.{Question}
-use Rattle.cdb_base.specs.declared.question.Question.TheVariants.{Explain, Trail, Draw, Slice}
+use Rattle.cdb_base.specs.declared.question.Question.TheVariants.{Explain, Trail, Draw, Slice, Clocks, Page}
+use Rattle.cdb_clocks.specs.WrittenClocks.{IsFaultOfClocks, WritesClocks}
 use Rattle.cdb_draw.specs.Drawn.{draw_ending, Draws, IsFaultOfDraw}
 use Rattle.cdb_explain.specs.Explained.{answer_ending, Explains, IsFaultOfExplain}
 use Rattle.cdb_explain.specs.declared.fault.AnswerFault.{AnswerFault}
+use Rattle.cdb_page.specs.Written.{IsFaultOfPage, WritesPage}
 use Rattle.cdb_slice.specs.Slices.{WritesSlice, IsFaultOfSlice}
 use Rattle.cdb_streams.specs.Endings.{Ending}
 use Rattle.cdb_streams.specs.Streams.{Stream}
@@ -21,6 +23,8 @@ Answers json (Explain step) old new = Explains rules json step.p step.k old new
 Answers json (Trail step) old new = WritesTrail json step.p step.k old new
 Answers json (Draw columns step) old new = Draws rules json columns step old new
 Answers json (Slice step) old new = WritesSlice rules json step old new
+Answers json Clocks old new = WritesClocks rules json old new
+Answers json Page old new = WritesPage json old new
 
 -- why it is not answered
 abbrev pub IsFaultOfQuestion : List ℕ → Question → Stream → Stream → AnswerFault → Type 0
@@ -28,6 +32,8 @@ IsFaultOfQuestion json (Explain step) old new = IsFaultOfExplain rules json step
 IsFaultOfQuestion json (Trail step) old new = IsFaultOfTrail json step.p step.k old new
 IsFaultOfQuestion json (Draw columns step) old new = IsFaultOfDraw rules json step old new
 IsFaultOfQuestion json (Slice step) old new = IsFaultOfSlice rules json step old new
+IsFaultOfQuestion json Clocks old new = IsFaultOfClocks rules json old new
+IsFaultOfQuestion json Page old new = IsFaultOfPage json old new
 
 -- how the writing of the answer ended
 abbrev pub question_ending : Question → TextEnd → Ending

@@ -1,7 +1,7 @@
 -- What the program does with a request.
 use Rattle.std.specs.Prelude.{◌≡◌, ℕ, ◌≤◌, List, [], ◌∷◌, codes, Option, Some, None, Ok, Err}
 use Rattle.cdb_base.specs.Requests.{RequestView, Script, Play, Race, Ask, Frames, Debug, Replay}
-use Rattle.cdb_base.specs.Requests.{Search, Shrink, Same, Clocks, Page, Text, asked_for}
+use Rattle.cdb_base.specs.Requests.{Search, Shrink, Same, Text, asked_for}
 use Rattle.cdb_base.specs.declared.question.StepAsked.{StepAsked}
 use Rattle.cdb_streams.specs.Streams.{Stream, Takes, Fails, itself}
 use Rattle.cdb_streams.specs.declared.fault.PlayFault.TheVariants.{Write}
@@ -9,14 +9,12 @@ use Rattle.cdb_agreement.specs.Algorithms.{rules}
 use Rattle.cdb_agreement.specs.SameState.{ReachSameState}
 use Rattle.cdb_control.specs.Headline.{Headline}
 use Rattle.cdb_control.specs.Laws.{ForJournals}
-use Rattle.cdb_program.specs.Clocks.{ClocksFiles}
 use Rattle.cdb_program.specs.Comparisons.{ComparesFiles}
 use Rattle.cdb_program.specs.DebugSessions.{DebugsFile, DebugsFileKept}
 use Rattle.cdb_program.specs.FrameFiles.{FramesFiles}
 use Rattle.cdb_program.specs.Known.{HasNoSession, Seen}
 use Rattle.cdb_program.specs.LivePages.{DebugsFilePaged, PerformsPaged}
 use Rattle.cdb_program.specs.Outcomes.{RequestEnd}
-use Rattle.cdb_program.specs.PageFiles.{PagesFiles}
 use Rattle.cdb_program.specs.Plays.{PlaysInput, PlaysFiles}
 use Rattle.cdb_program.specs.Questions.{AsksFiles}
 use Rattle.cdb_program.specs.Races.{RacesFiles}
@@ -72,8 +70,6 @@ Does (Replay setup journal) old new outcome = ReplaysFiles setup journal old new
 Does (Search setup goal seed walks) old new outcome = SearchesFile setup goal walks old new outcome
 Does (Shrink setup script goal) old new outcome = ShrinksFiles setup script goal old new outcome
 Does (Same setup first second) old new outcome = ComparesFiles setup first second old new outcome
-Does (Clocks setup script) old new outcome = ClocksFiles setup script old new outcome
-Does (Page setup script) old new outcome = PagesFiles setup script old new outcome
 
 -- the text is written, or the outcome is that output failed
 abbrev pub Prints : Text → Stream → Stream → RequestEnd → Type 0

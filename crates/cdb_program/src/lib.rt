@@ -3,14 +3,12 @@
 
 mod answers;
 mod beginning;
-mod clocks;
 mod compares;
 mod debugs;
 mod fault;
 mod files;
 mod frames;
 mod live_pages;
-mod pages;
 mod plays;
 mod questions;
 mod races;

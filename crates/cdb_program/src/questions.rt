@@ -13,8 +13,10 @@ use crate::files::{Files, read_two};
 use crate::world::World;
 use cdb_any_run::AnyRun;
 use cdb_base::Question;
+use cdb_clocks::clocks;
 use cdb_draw::draw;
 use cdb_explain::{AnswerFault, explain};
+use cdb_page::write_page;
 use cdb_slice::slice;
 use cdb_streams::{Bytes, Sink, Source};
 use cdb_trail::write_trail;
@@ -45,6 +47,8 @@ fn answer<R: Source, W: Sink>(
             draw::<R, W>(alloc, setup, script, columns, step, out)
         }
         Question::Slice(step) => slice::<AnyRun, R, W>(alloc, setup, script, step, out),
+        Question::Clocks => clocks::<AnyRun, R, W>(alloc, setup, script, out),
+        Question::Page => write_page(alloc, setup, script, out),
     }
 }
 

@@ -6,14 +6,12 @@ ghost use Rattle.cdb_program.specs.Requests.{DebugsAlone, DebugsHere, Does, Draw
 ghost use Rattle.cdb_program.specs.Requests.{IsNoSession, HeadlineHolds, MayPerform, Performs, PerformsAsked};
 ghost use Rattle.cdb_program.specs.Requests.{PerformsSeats, PerformsSessions, PrintsText};
 
-use crate::clocks::clock_files;
 use crate::compares::compare_files;
 use crate::debugs::{debug_file, debug_file_kept};
 use crate::fault::Fault;
 use crate::files::Files;
 use crate::frames::frame_files;
 use crate::live_pages::{debug_file_paged, perform_paged};
-use crate::pages::page_files;
 use crate::plays::{play_files, play_input};
 use crate::questions::answer_files;
 use crate::races::race_files;
@@ -127,8 +125,6 @@ fn carry_out<
             first,
             second,
         } => compare_files(alloc, setup, first, second, world),
-        Request::Clocks { setup, script } => clock_files(alloc, setup, script, world),
-        Request::Page { setup, script } => page_files(alloc, setup, script, world),
     }
 }
 

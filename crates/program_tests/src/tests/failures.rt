@@ -45,9 +45,10 @@ const SLICE: Request<'static> = Request::Ask {
     question: Question::Slice(Some(STEP)),
 };
 
-const PAGE: Request<'static> = Request::Page {
+const PAGE: Request<'static> = Request::Ask {
     setup: "one.json",
     script: "eight.txt",
+    question: Question::Page,
 };
 
 const REPLAY: Request<'static> = Request::Replay {
