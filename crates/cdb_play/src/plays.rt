@@ -80,25 +80,7 @@ fn perform_all<T: Runs, W: Sink>(
     performed
 }
 
-/// Carries the commands out as `perform_all` does, and writes the transcript in pieces, by way of an empty buffer.
-fn write_pieces<T: Runs, W: Sink>(
-    alloc: Global,
-    setup: Setup,
-    commands: &[Command],
-    buffer: &mut Buffer,
-    out: &mut W,
-) -> Result<(), OutputFault>
-    requires few { length commands.now < MAX_ENTRIES }
-    requires empty { buffer.old ≡ [] }
-    ensures { IsWritten W.stream (pieces_ending result) out.old out.new
-        (Only (transcript (T.rules setup) setup commands.now)) }
-{
-    perform_all::<T, W>(alloc, setup, commands, buffer, out)?;
-    buffer.flush(out)?;
-    Ok(())
-}
-
-/// Writes the transcript as `write_pieces` does.
+/// Carries the commands out as `perform_all` does, and writes the transcript in pieces.
 fn write_transcript<T: Runs, W: Sink>(
     alloc: Global,
     setup: Setup,
@@ -110,27 +92,8 @@ fn write_transcript<T: Runs, W: Sink>(
         (Only (transcript (T.rules setup) setup commands.now)) }
 {
     let mut buffer = Buffer::new(alloc)?;
-    write_pieces::<T, W>(alloc, setup, commands, &mut buffer, out)
-}
-
-/// Plays a script on a run of the setup, by the rules of such a run.
-fn play_by<T: Runs, R: Source, W: Sink>(
-    alloc: Global,
-    setup: &[u8],
-    script: &mut R,
-    out: &mut W,
-) -> Result<(), PlayFault>
-    ensures wrote { IsWritten W.stream (play_ending result) out.old out.new
-        (Plays T.rules setup.now (R.stream script.old) (R.stream script.new)) }
-    ensures fault { IfErr result
-        (IsFaultOfPlay setup.now (R.stream script.old) (R.stream script.new)) }
-    ensures unread { (fault : SetupFaultName) → result ≡ Err (PlayFault.Setup fault) →
-        script.new ≡ script.old }
-    ensures read { FailsWhere R.stream (result ≡ Err PlayFault.Read) script.old script.new }
-{
-    let setup = Setup::read(alloc, setup)?;
-    let commands = read_commands(alloc, script)?;
-    write_transcript::<T, W>(alloc, setup, commands.as_slice(), out)?;
+    perform_all::<T, W>(alloc, setup, commands, &mut buffer, out)?;
+    buffer.flush(out)?;
     Ok(())
 }
 
@@ -166,5 +129,8 @@ pub fn play<T: Runs, R: Source, W: Sink>(
 {
     // Its clause says that the headline holds of every journal.
     laws::headline::<T>();
-    play_by::<T, R, W>(alloc, setup, script, out)
+    let setup = Setup::read(alloc, setup)?;
+    let commands = read_commands(alloc, script)?;
+    write_transcript::<T, W>(alloc, setup, commands.as_slice(), out)?;
+    Ok(())
 }

@@ -5,6 +5,7 @@ ghost use Rattle.std.specs.List.{flat_map};
 ghost use Rattle.cdb_base.specs.Limits.{MAX_SEATS};
 ghost use Rattle.cdb_commands.specs.ReplyView.{reply_view};
 ghost use Rattle.cdb_race.specs.Races.{all_reply_views};
+ghost use Rattle.cdb_text.specs.Pushes.{Pushes};
 ghost use Rattle.cdb_text.specs.Texts.{text_of};
 ghost use Rattle.cdb_play.specs.Races.{seat_heading, seat_text, seats_text, end_text, verdict_text, have_one_value};
 ghost use Rattle.cdb_play.specs.Races.{text_with};
@@ -15,8 +16,8 @@ ghost use Rattle.cdb_streams.specs.Written.{IsWritten, Only};
 use cdb_base::{Proc, Val};
 use cdb_control::{Control, Reply, Runs};
 use cdb_streams::{Buffer, OutputFault, Sink, put_reply};
-use itoa::Buffer as Digits;
-use std::alloc::Global;
+use cdb_text::{push_number, push_reply};
+use std::alloc::{AllocError, Global};
 
 /// Puts the texts of the replies, one after the other. Each is made in `text`.
 fn put_replies<W: Sink>(
@@ -34,20 +35,18 @@ fn put_replies<W: Sink>(
     Ok(())
 }
 
-/// Puts the line with the number of a seat.
-fn put_line<W: Sink>(seat: usize, buffer: &mut Buffer, out: &mut W) -> Result<(), OutputFault>
-    ensures { Puts W.stream result out.old buffer.old out.new buffer.new (seat_heading seat) }
+/// Adds the line with the number of a seat at the end of a text.
+fn push_heading(text: &mut String, seat: u32) -> Result<(), AllocError>
+    ensures { Pushes result text.old text.new (seat_heading seat) }
 {
-    let mut digits = Digits::new();
-    buffer.put(out, b"seat ")?;
-    buffer.put(out, digits.format(seat).as_bytes())?;
-    buffer.put(out, b"\n")?;
-    Ok(())
+    text.push_str("seat ")?;
+    push_number(text, seat)?;
+    text.push('\n')
 }
 
-/// Puts the line of a seat, and the texts of its replies.
+/// Puts the line of a seat, and the texts of its replies. Each is made in `text`.
 fn put_seat<W: Sink>(
-    seat: usize,
+    seat: u32,
     replies: &[Reply],
     text: &mut String,
     buffer: &mut Buffer,
@@ -56,13 +55,15 @@ fn put_seat<W: Sink>(
     ensures { Puts W.stream result out.old buffer.old out.new buffer.new
         (seat_text seat (map reply_view replies.now)) }
 {
-    put_line(seat, buffer, out)?;
+    text.clear();
+    push_heading(text, seat)?;
+    buffer.put(out, text.as_bytes())?;
     put_replies(replies, text, buffer, out)
 }
 
 /// Puts seats, numbered from the first, each with its replies.
 fn put_seats<W: Sink>(
-    first: usize,
+    first: u32,
     seats: &[Vec<Reply>],
     text: &mut String,
     buffer: &mut Buffer,
@@ -101,7 +102,7 @@ fn verdict(decisions: &[(Proc, Val)]) -> &'static str
     }
 }
 
-/// Puts the decisions, and whether they agree.
+/// Puts the decisions, and whether they agree. Both are made in `text`.
 fn put_end<W: Sink>(
     decisions: Vec<(Proc, Val)>,
     text: &mut String,
@@ -113,10 +114,12 @@ fn put_end<W: Sink>(
 {
     let verdict = verdict(decisions.as_slice());
     let reply = Reply::Decisions(decisions);
-    let replied = put_reply(&reply, text, buffer, out);
+    text.clear();
+    let pushed = push_reply(text, &reply);
     reply.close();
-    replied?;
-    buffer.put(out, verdict.as_bytes())?;
+    pushed?;
+    text.push_str(verdict)?;
+    buffer.put(out, text.as_bytes())?;
     Ok(())
 }
 
@@ -134,31 +137,12 @@ fn put_race<T: Runs, W: Sink>(
         (text_with T.rules control.now (all_reply_views replies.now)) }
 {
     let run = control.run();
-    put_seats(usize::from(run.processes()) + 1, replies, text, buffer, out)?;
+    put_seats(u32::from(run.processes()) + 1, replies, text, buffer, out)?;
     let decisions = run.decisions(alloc)?;
     put_end(decisions, text, buffer, out)
 }
 
 /// Puts the same into an empty buffer, and writes what is left in it.
-fn write_pieces<T: Runs, W: Sink>(
-    alloc: Global,
-    control: &Control<T>,
-    replies: &[Vec<Reply>],
-    text: &mut String,
-    buffer: &mut Buffer,
-    out: &mut W,
-) -> Result<(), OutputFault>
-    requires seats { control.now.setup.processes + length replies.now ≤ MAX_SEATS }
-    requires empty { buffer.old ≡ [] }
-    ensures { IsWritten W.stream (pieces_ending result) out.old out.new
-        (Only (text_with T.rules control.now (all_reply_views replies.now))) }
-{
-    put_race(alloc, control, replies, text, buffer, out)?;
-    buffer.flush(out)?;
-    Ok(())
-}
-
-/// Writes the text of a race as `write_pieces` does.
 pub(super) fn write_race<T: Runs, W: Sink>(
     alloc: Global,
     control: &Control<T>,
@@ -173,5 +157,7 @@ pub(super) fn write_race<T: Runs, W: Sink>(
 {
     let mut buffer = buffer;
     let mut text = String::new(alloc);
-    write_pieces(alloc, control, replies, &mut text, &mut buffer, out)
+    put_race(alloc, control, replies, &mut text, &mut buffer, out)?;
+    buffer.flush(out)?;
+    Ok(())
 }

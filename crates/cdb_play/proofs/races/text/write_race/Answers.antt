@@ -1,7 +1,7 @@
 use Rattle.std.proofs.Common.{refl}
 use Rattle.std.proofs.lemmas.Result.{err_from_is_err_and}
 use Rattle.cdb_streams.proofs.PiecesPut.{left_written, fails_at_end}
-use Rattle.cdb_play.proofs.races.text.write_pieces.Goals as goal
+use Rattle.cdb_play.proofs.races.text.write_race.Goals as goal
 
 pub returns-in_err-put_race : goal.returns-in_err-put_race
 returns-in_err-put_race g c =
