@@ -2,7 +2,7 @@
 use Rattle.std.proofs.Common.{◌≡◌, inl, inr, ℕ, List, [], Option, Some, None, Result, Ok, Err, IfOk, IfErr, subst, sym}
 use Rattle.clap.specs.Words.{Row}
 use Rattle.cdb_base.specs.Memory.{no_memory}
-use Rattle.cdb_base.specs.Requests.{RequestView, Script, Play, Race, Ask, Frames, Debug, Replay, Search, Shrink, Same, Clocks, Page, Text}
+use Rattle.cdb_base.specs.Requests.{RequestView, Script, Play, Race, Ask, Frames, Debug, Replay, Search, Shrink, Same, Text}
 use Rattle.cdb_arguments.specs.RequestsOfRows.{IsOfKinds, NamesAsked}
 use Rattle.cdb_arguments.proofs.Turns.{race_has_turns}
 use Rattle.cdb_arguments.specs.declared.request.ArgumentsFault.{ArgumentsFault}
@@ -50,8 +50,6 @@ turns_named (Some found) (Replay setup journal) names = tt
 turns_named (Some found) (Search setup goal seed walks) names = tt
 turns_named (Some found) (Shrink setup script goal) names = tt
 turns_named (Some found) (Same setup first second) names = tt
-turns_named (Some found) (Clocks setup script) names = tt
-turns_named (Some found) (Page setup script) names = tt
 
 -- an allocation failed before it was known what is asked for
 pub memory_is_asked : (prompt : Text) (words : List Text) (action : Action) → IsOutOfMemory action → IsAskedBy prompt words action
