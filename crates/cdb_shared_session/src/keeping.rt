@@ -36,8 +36,8 @@ pub(crate) struct Keeping<R: Runs, J> {
     pub(crate) count: Result<usize, Failed>,
 }
 
-/// Adds these entries to the file, in one piece, behind so many that it has, and returns how many it then has. Where
-/// memory is out it adds none.
+/// Adds these entries to a file that has the first `count` already, in one piece, and returns how many it then has.
+/// Where memory is out it adds none.
 ///
 /// # Errors
 /// `Failed` where the file can't be written; it has a beginning of them.
@@ -58,8 +58,8 @@ pub(crate) fn add<J: Sink>(
     }
 }
 
-/// Adds the entries behind so many to the file, in one piece, and returns how many it then has. Where memory is out it
-/// adds none.
+/// Adds the entries after the first `count` to the file, in one piece, and returns how many it then has. Where memory
+/// is out it adds none.
 ///
 /// # Errors
 /// `Failed` where the file can't be written; it has a beginning of them.

@@ -124,7 +124,7 @@ module _ (xs : List Access) (mark : ℕ) (rising : IsRisingBy xs) (test : Access
         behind = λ i it at past. rw (get_or_from_slice_get xs i it it at) at (high _ (point.1 i it past (slice_get_within xs i it at)));
       }
 
--- so many have lower marks
+-- the number of accesses with lower marks
 pub split_counts : (mark : ℕ) (xs : List Access) (n : ℕ) → IsSplitAt xs mark n → count_by (is_before mark) xs ≡ n
 split_counts mark [] n split = let within = split.within in omega arith
 split_counts mark (x ∷ xs) zero split =
