@@ -25,6 +25,9 @@ class Function:
         self.name, self.trait = match[3], impl and impl[1] and impl[1].split("::")[-1]
         # (the check joins the parts of a type's path)
         self.owner = impl and "".join(it[:1].upper() + it[1:] for it in impl[3].replace("(", "Tuple").split("::"))
+        # (and a tuple's name has those of its parts)
+        parts = impl.string.partition(" for (")[2].partition(")")[0] if self.owner == "Tuple" else ""
+        self.parts = parts.replace(", ", "") if re.fullmatch(r"[\w, ]+", parts) else r"\w*"
         self.is_public = (match[2] or "").strip() == "pub" or self.trait is not None
         # Whether it stands in a trait, or is evaluated by the compiler.
         self.is_default, self.is_const = bool(match[1]) and not impl, "const fn" in match[0]

@@ -1,9 +1,8 @@
 -- The states that valid histories of the Alpha machine reach, seen as runs of its steps with traces; agreement, and the laws of their rounds.
 use Rattle.std.proofs.lemmas.Grind.{common_steps}
-use Rattle.std.proofs.lemmas.Option.{gets}
-use Rattle.std.proofs.Common.{◌≡◌, ℕ, zero, suc, ◌≤◌, ◌==◌, true, List, length, Option, Some, None, slice_index}
-use Rattle.std.proofs.Common.{if◌then◌else◌, inl, inr, refl, sym, ap, subst, ◌∙◌, arith, eq-eqb}
-use Rattle.std.proofs.lemmas.Option.{none-some, same_Some}
+use Rattle.std.proofs.lemmas.Option.{gets, none-some, same_Some}
+use Rattle.std.proofs.Common.{◌≡◌, ℕ, zero, suc, ◌≤◌, ◌==◌, true, List, length, Option, Some, None, slice_index, if◌then◌else◌, inl, inr, refl, sym, ap, subst}
+use Rattle.std.proofs.Common.{◌∙◌, arith, eq-eqb}
 use Rattle.cdb_base.specs.Positions.{nth}
 use Rattle.cdb_base.specs.declared.event.Event.{Event}
 use Rattle.cdb_base.specs.declared.event.Event.TheVariants as happening
@@ -26,20 +25,16 @@ use Rattle.cdb_rules.specs.Agreement.{AllAgree}
 use Rattle.cdb_rules.specs.Decisions.{decisions_of}
 use Rattle.cdb_rules.specs.InputsTaken.{taken_local, input_of, registers_after}
 use Rattle.cdb_rules.specs.State.{ProcessState, RunState, start, fresh_process}
-use Rattle.cdb_rules.specs.Step.{after, fold}
-use Rattle.cdb_rules.proofs.Bounds.{length-set_nth}
-use Rattle.cdb_rules.proofs.Commutes.{lost_from}
-use Rattle.cdb_rules.proofs.Stages.{sight_in, meets}
-use Rattle.cdb_rules.proofs.Taken.{IsTaken, IsAccepted, taken_from, parts}
+use Rattle.cdb_rules.specs.Step.{after, fold, sight_in, meets}
+use Rattle.cdb_rules.proofs.ValidHistories.{length-set_nth}
+use Rattle.cdb_rules.proofs.Taken.{lost_from, each_after, IsTaken, IsAccepted, taken_from, parts}
 use Rattle.cdb_agreement.specs.Algorithms.{alpha_machine}
 use Rattle.cdb_agreement.specs.Rounds.{IsProcess, IsRegister, AlphaRounds}
-use Rattle.cdb_agreement.proofs.AlphaRuns.{Run, first_run, own_of, Settled, RunStep, RunLaws, first_run_laws, cells_rise, run_step_keeps}
-use Rattle.cdb_agreement.proofs.AlphaRuns.{settled_follows, one_settled}
+use Rattle.cdb_agreement.proofs.AlphaRuns.{Run, first_run, own_of, Settled, RunStep, RunLaws, first_run_laws, cells_rise, run_step_keeps, settled_follows}
+use Rattle.cdb_agreement.proofs.AlphaRuns.{one_settled}
 use Rattle.cdb_agreement.proofs.AlphaSteps.{TracedLaws}
-use Rattle.cdb_agreement.proofs.Decided.{agreeing}
-use Rattle.cdb_agreement.proofs.Firsts.{length-firsts, first_at, first_cells, first_decision}
-use Rattle.cdb_agreement.proofs.Inputs.{Brings, brings, shown_from}
-use Rattle.cdb_agreement.proofs.Reached.{IsKept, nth_among, reached, each_after}
+use Rattle.cdb_agreement.proofs.Reached.{agreeing, length-firsts, first_at, first_cells, first_decision, Brings, brings, shown_from, IsKept, nth_among}
+use Rattle.cdb_agreement.proofs.Reached.{reached}
 
 -- process p of n stands as the run has it
 pub record IsTraced (n : ℕ) (run : Run) (p : ℕ) (x : ProcessState LocalState) : Type 0 where

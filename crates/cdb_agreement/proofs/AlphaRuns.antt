@@ -1,13 +1,14 @@
 -- Runs of the Alpha machine: what each step keeps, and that no two decisions differ.
 use Rattle.std.proofs.lemmas.Grind.{common_steps}
 use Rattle.std.proofs.lemmas.Option.{gets}
-use Rattle.std.specs.Prelude.{◌≡◌, ℕ, zero, suc, ◌+◌, ◌*◌, ◌<◌, ◌≤◌, List, [], ◌∷◌, ◌++◌, length, Option, Some, None, ◌⊎◌}
+use Rattle.std.specs.Prelude.{◌≡◌, ℕ, suc, ◌<◌, ◌≤◌, List, [], ◌∷◌, ◌++◌, length, Option, Some, None, ◌⊎◌}
 use Rattle.std.proofs.Common.{inl, inr, arith, sym, ◌∙◌, subst, length-append}
 use Rattle.std.proofs.lemmas.Bool.{cases_eq, cases_lt}
 use Rattle.cdb_base.specs.declared.register.Cell.{Cell}
 use Rattle.cdb_process.proofs.Members.{IsIn, in_push_old, in_push_new, contained_in, in_contained}
 use Rattle.cdb_setup.specs.Parts.{IsWithin}
 use Rattle.cdb_alpha.specs.Steps.{Traced, ValueBasis, FoundedRow, after_row, Step, stay, read, settle, read_again}
+use Rattle.cdb_alpha.proofs.Reached.{one_class}
 use Rattle.cdb_agreement.proofs.AlphaSteps.{first_traced, TracedLaws, first_traced_laws, Alive, alive_before}
 use Rattle.cdb_agreement.proofs.AlphaSteps as one
 
@@ -60,13 +61,6 @@ pub record RunLaws (n : ℕ) (t : Run) : Type 0 where
 
 pub first_run_laws : (n : ℕ) (inputs : ℕ → ℕ) → RunLaws n (first_run inputs)
 first_run_laws n inputs = grind (arith, common_steps, gets, first_traced_laws)
-
--- rounds of different processes differ
-one_class : (n i j a b : ℕ) → IsWithin 1 n i → IsWithin 1 n j → i + a * n ≡ j + b * n → i ≡ j
-one_class n i j zero zero one other same = omega arith
-one_class n i j zero (suc b) one other same = absurd (omega (arith, one.1, other.0))
-one_class n i j (suc a) zero one other same = absurd (omega (arith, one.0, other.1))
-one_class n i j (suc a) (suc b) one other same = one_class n i j a b one other (omega arith)
 
 module _ (n : ℕ) (t : Run) (laws : RunLaws n t) where
   -- one value is written in a round

@@ -106,10 +106,9 @@ module _ (n j : ℕ) (some_process : 1 ≤ n) (own : ℕ → Cell) (dec : Option
         grind (arith, common_steps, gets, written_from row r v it, written_from row r x other, laws.one_write r v x, not_yet r v, not_yet r x);
     seen_all = λ at. let long = length-append l.seen (own (suc (length l.seen)) ∷ []) in grind (arith, common_steps, gets);
     value_here = λ from to. let new = in_push_new (l.round, l.value) l.own_writes in grind (arith, common_steps, gets);
-    carried_low = λ r it. let up = rises row in elim (carried_from row r it) [
-      | inl old ↦ let low = laws.carried_low r old in omega arith
-      | inr now ↦ let low = laws.written_low l.round l.value (laws.value_here (omega arith) (omega arith)) in omega arith
-    ];
+    carried_low = λ r it.
+        let up = rises row in
+        grind (arith, common_steps, gets, carried_from row r it, laws.carried_low r, laws.value_here, laws.written_low l.round l.value);
     carried_here = λ at. let new = in_push_new l.round l.carried in grind (arith, common_steps, gets);
   }
 

@@ -1,12 +1,11 @@
 -- In a valid history the steps of a process, and its sends, are numbered in order.
 use Rattle.std.proofs.lemmas.Grind.{common_steps}
-use Rattle.std.proofs.lemmas.Option.{gets}
-use Rattle.std.proofs.Common.{◌≡◌, ◌↔◌, ℕ, zero, suc, ◌+◌, Bool, true, false, cond, ◌≢◌, List, [], ◌∷◌, length, Some}
-use Rattle.std.proofs.Common.{filter, slice_get, inl, inr, refl, sym, ap, ◌∙◌, subst, true≢false, arith}
+use Rattle.std.proofs.lemmas.Option.{gets, none-some}
+use Rattle.std.proofs.Common.{◌≡◌, ◌↔◌, ℕ, zero, suc, ◌+◌, Bool, true, false, cond, ◌≢◌, List, [], ◌∷◌, length, Some, filter, slice_get, inl, inr, refl, sym}
+use Rattle.std.proofs.Common.{ap, ◌∙◌, subst, true≢false, arith}
 use Rattle.std.proofs.lemmas.List.{length_push}
 use Rattle.std.proofs.lemmas.Bool.{cases_Bool}
 use Rattle.std.proofs.lemmas.Bool.Decides.{nat_tests}
-use Rattle.std.proofs.lemmas.Option.{none-some}
 use Rattle.cdb_agreement.specs.StepNumbers.{is_send_by, AreStepsNumbered, AreSendsNumbered}
 use Rattle.cdb_base.specs.Event.{event_name, is_step_of}
 use Rattle.cdb_base.specs.Positions.{nth}
@@ -18,17 +17,12 @@ use Rattle.cdb_base.specs.declared.name.CopyName.{CopyName}
 use Rattle.cdb_causal.specs.Exchange.{IsIn}
 use Rattle.cdb_rules.specs.Runs.{step_name}
 use Rattle.cdb_rules.specs.State.{Machine, ProcessState, RunState, start}
-use Rattle.cdb_rules.specs.Step.{after, IsValid}
-use Rattle.cdb_rules.proofs.Commutes.{lost_from}
-use Rattle.cdb_rules.proofs.Kept.{at_each, at_left, process_kept, other_sent_kept, with_loss}
+use Rattle.cdb_rules.specs.Step.{after, IsValid, is_due, sent_after}
+use Rattle.cdb_rules.proofs.Taken.{lost_from, at_each, at_left, process_kept, other_sent_kept, with_loss, sent_is, IsTaken, taken_from, parts, some_of}
 use Rattle.cdb_rules.proofs.ListMembers.{in_filter, from_filter, position_in}
-use Rattle.cdb_rules.proofs.Mails.{sent_is}
-use Rattle.cdb_rules.proofs.Members.{Reaches, first_step, nth-fresh}
-use Rattle.cdb_rules.proofs.NamedEvents.{in_position}
-use Rattle.cdb_rules.proofs.Numbers.{steps_of, sends_of, number_is, number_after, send_number}
+use Rattle.cdb_rules.proofs.Members.{Reaches, first_step, nth-fresh, steps_of, sends_of, number_is, number_after, send_number}
+use Rattle.cdb_rules.proofs.ValidHistories.{in_position}
 use Rattle.cdb_rules.proofs.Positions.{nth-map}
-use Rattle.cdb_rules.proofs.Stages.{is_due, sent_after}
-use Rattle.cdb_rules.proofs.Taken.{IsTaken, taken_from, parts, some_of}
 
 module _ {L : Type 0} (machine : Machine L) where
   -- a state counts the events of a sort that there were, and the next has the next number
@@ -96,15 +90,8 @@ module _ {L : Type 0} (machine : Machine L) where
     steps_count : (state next : RunState L) (q k : ℕ) (kind : Kind) → IsTaken machine state q k kind next
         → Counts (is_step_of p) step_number (λ state. steps_of state p) state (Step q k kind) next
     steps_count state next q k kind t =
-        grind (
-          arith,
-          common_steps,
-          gets,
-          nat_tests,
-          number_is machine state next q k kind t,
-          number_after machine state next q k kind t,
-          process_kept machine state next q k kind t p,
-        )
+        let number = number_is machine state next q k kind t in let after_it = number_after machine state next q k kind t in
+        let kept = process_kept machine state next q k kind t p in grind (arith, common_steps, gets, nat_tests)
 
     no_steps : steps_of (start machine) p ≡ 0
     no_steps = grind (arith, common_steps, gets, nth-fresh)

@@ -27,7 +27,7 @@ use cdb_base::{Event, Refusal};
 
 /// Two events that do not depend on each other may be taken in either order, from every state: both
 /// orders lead to the same state, or in neither order may both be taken.
-#[tactic(auto, using(cdb_rules::proofs::Commutes::after_commutes))]
+#[tactic(auto, using(cdb_rules::proofs::Taken::after_commutes))]
 pub fn independent_events_commute<L>()
     ensures { (machine : Machine L) → IsCommuting (after machine) depends }
 {}
@@ -88,6 +88,7 @@ pub fn rollback<L>()
 /// A rollback removes the event of the name with its consequences, the last first,
 /// and is refused where none has it. What it leaves is valid, and what it removed, taken again in order,
 /// leads back to the state that the history reached.
+#[tactic(auto, using(cdb_rules::proofs::Undo::rolling_back))]
 pub fn granted_rollback<L>()
     ensures rolled_back { ForNamed (λ n history name at event.
         rollback_of n history name ≡ Ok (taken_back history at)) }
@@ -113,7 +114,7 @@ pub fn step_then_undo()
 
 /// In a valid history each event stands once, the steps of one process stand in the order of their
 /// numbers, and a name names one event: each event is the one of its name.
-#[tactic(auto, using(cdb_rules::proofs::NamedEvents::valid_once, cdb_rules::proofs::NamedEvents::numbers_rise))]
+#[tactic(auto, using(cdb_rules::proofs::Undo::once_and_rising))]
 pub fn names<L>()
     ensures once { InValid L (λ machine history. IsEachOnce history) }
     ensures rising { InValid L (λ machine history. NumbersRise history) }
@@ -130,7 +131,7 @@ pub fn numbers<L>()
 {}
 
 /// A valid history of nine processes at most is one that the look-ups over histories ask for.
-#[tactic(auto, using(cdb_rules::proofs::NamedEvents::valid_standing))]
+#[tactic(auto, using(cdb_rules::proofs::ValidHistories::valid_standing))]
 pub fn valid_histories_stand<L>()
     ensures { InValid L (λ machine history.
         length machine.firsts ≤ MAX_PROCESSES → IsStanding history) }
@@ -138,14 +139,14 @@ pub fn valid_histories_stand<L>()
 
 /// In a valid history the loss of a copy comes after the send of its message, and no receive of
 /// that copy stands anywhere.
-#[tactic(auto, using(cdb_rules::proofs::NamedEvents::lost_after_send, cdb_rules::proofs::NamedEvents::lost_unreceived))]
+#[tactic(auto, using(cdb_rules::proofs::Undo::losses))]
 pub fn losses<L>()
     ensures sent { InValid L (λ machine history. LossesFollowSends history) }
     ensures unreceived { InValid L (λ machine history. LostStayUnreceived history) }
 {}
 
 /// Histories that reach the same state are equal up to exchange.
-#[tactic(auto, using(cdb_rules::proofs::SameState::same_state_exchanged))]
+#[tactic(auto, using(cdb_rules::proofs::ValidHistories::same_state_exchanged))]
 pub fn same_state_exchanged<L>()
     ensures { ForTwo L (λ machine one other.
         ReachOneState machine one other → IsExchanged depends one other) }
@@ -153,7 +154,7 @@ pub fn same_state_exchanged<L>()
 
 /// The own events of a process, in the state that a history reaches, are its steps as the history
 /// alone determines them: each read and write of a register with the number of writes before it.
-#[tactic(auto, using(cdb_rules::proofs::OwnOfState::own_of_history))]
+#[tactic(auto, using(cdb_rules::proofs::ValidHistories::own_of_history))]
 pub fn own_events<L>()
     ensures { ForReached L (λ machine history state. (p : ℕ) →
         own_of state p ≡ own_steps p history) }

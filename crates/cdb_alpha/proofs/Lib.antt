@@ -1,9 +1,2 @@
-pub mod Choice
-pub mod TableSteps
-pub mod Rounds
-pub mod Written
-pub mod SameCells
 pub mod Reached
-pub mod FoundedSteps
-pub mod Values
 pub mod Promised

@@ -160,12 +160,10 @@ impl Alpha {
         ensures after { next_round self.old ≡ Some self.new }
         ensures back { state_before self.new result ≡ self.old }
     {
-        let back = Back {
-            before: Before::Round(self.place, self.round),
-        };
+        let before = Before::Round(self.place, self.round);
         self.place = Place::A0;
         self.round += u32::from(self.processes);
-        back
+        Back { before }
     }
 
     /// Goes on after a write of that cell to the own register: a pass begins.
@@ -184,12 +182,10 @@ impl Alpha {
             },
         )?;
         mem::swap(&mut before.seen, &mut self.seen);
-        let back = Back {
-            before: Before::Pass(self.place, before),
-        };
+        let before = Before::Pass(self.place, before);
         self.own = cell;
         self.place = reading;
-        Ok(back)
+        Ok(Back { before })
     }
 
     /// Takes what the register of the decision holds.
@@ -198,9 +194,7 @@ impl Alpha {
         ensures after { self.new ≡ see_decision self.old value }
         ensures back { state_before self.new result ≡ self.old }
     {
-        let back = Back {
-            before: Before::Place(self.place),
-        };
+        let before = Before::Place(self.place);
         match value {
             Some(value) => {
                 self.decision = Some(value);
@@ -208,7 +202,7 @@ impl Alpha {
             }
             None => self.place = Place::A1,
         }
-        back
+        Back { before }
     }
 
     /// Adds a cell to those that are seen in this pass, after which the process is at `over`.
@@ -220,9 +214,7 @@ impl Alpha {
         ensures back { IfOk result (λ b. state_before self.new b ≡ self.old) }
         ensures unchanged { OnErr result (self.new ≡ self.old) }
     {
-        let back = Back {
-            before: Before::Seen(self.place),
-        };
+        let before = Before::Seen(self.place);
         if self.seen.is_empty() {
             self.seen.reserve(usize::from(self.processes))?;
         }
@@ -230,7 +222,7 @@ impl Alpha {
         if self.seen.len() == usize::from(self.processes) {
             self.place = over;
         }
-        Ok(back)
+        Ok(Back { before })
     }
 
     /// Takes the answer to a query.
@@ -239,15 +231,13 @@ impl Alpha {
         ensures after { next_state self.old (Input.Query leader) ≡ Some self.new }
         ensures back { state_before self.new result ≡ self.old }
     {
-        let back = Back {
-            before: Before::Place(self.place),
-        };
+        let before = Before::Place(self.place);
         self.place = if leader == self.me {
             Place::A2
         } else {
             Place::A0
         };
-        back
+        Back { before }
     }
 
     /// Takes the cell that a register holds.
@@ -298,18 +288,14 @@ impl Alpha {
             return self.go_to_next_round();
         }
         if self.place == Place::A4 {
-            let back = Back {
-                before: Before::Value(self.place, self.value),
-            };
+            let before = Before::Value(self.place, self.value);
             self.value = find_value(&self.seen).unwrap_or(self.input);
             self.place = Place::A5;
-            back
+            Back { before }
         } else {
-            let back = Back {
-                before: Before::Place(self.place),
-            };
+            let before = Before::Place(self.place);
             self.place = Place::A8;
-            back
+            Back { before }
         }
     }
 }
@@ -325,17 +311,7 @@ impl Process for Alpha {
 
     ghost before = { state_before };
 
-    ghost query_by_state = { laws.next_state-query };
-
-    ghost recv_by_state = { laws.next_state-recv };
-
-    ghost wish_send = { laws.wish_of-send };
-
-    ghost wish_read = { laws.wish_of-read };
-
-    ghost wish_write = { laws.wish_of-write };
-
-    ghost wish_local = { laws.wish_of-local };
+    ghost lawful = { laws.lawful };
 
     fn first(alloc: Global, me: Proc, n: u8, _q: u8, input: Val) -> Result<Self, NoMemory> {
         Ok(Alpha {

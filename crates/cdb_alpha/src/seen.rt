@@ -40,7 +40,7 @@ pub(crate) fn shows_later_round(cells: &[Cell], round: u32) -> bool
 }
 
 /// Whether the cells are the same, in the same order.
-#[tactic(auto, using(crate::proofs::SameCells::same_cells))]
+#[tactic(auto, using(crate::proofs::Promised::same_cells))]
 pub(crate) fn are_same(cells: &[Cell], others: &[Cell]) -> bool
     ensures { IsTrue result ↔ (cells.now ≡ others.now) }
 {

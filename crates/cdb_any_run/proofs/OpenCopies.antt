@@ -1,9 +1,13 @@
 -- The copies that a process can still receive, one pending copy after another.
-use Rattle.std.proofs.Common.{◌≡◌, ℕ, zero, suc, ◌+◌, ◌<◌, Bool, true, false, cond, List, [], ◌∷◌, ◌++◌, length, Option}
-use Rattle.std.proofs.Common.{None, Some, filter, find, refl, ap, sym, ◌∙◌, subst, arith, append_assoc, append-nil}
+use Rattle.std.proofs.Common.{◌≡◌, ℕ, ◌+◌, ◌<◌, Bool, true, false, cond, List, [], ◌∷◌, ◌++◌, length, Option}
+use Rattle.std.proofs.Common.{None, Some, filter, find, inl, inr, refl, ap, sym, ◌∙◌, subst, arith, append_assoc, append-nil}
 use Rattle.std.specs.List.{AllByRecursion, range_with_len, flat_map}
+use Rattle.std.proofs.lemmas.Bool.{cases_Bool}
 use Rattle.std.proofs.lemmas.Bool.Decides.{nat_tests}
-use Rattle.std.proofs.lemmas.Option.{none-some, same_Some}
+use Rattle.std.proofs.lemmas.Grind.{common_steps}
+use Rattle.std.proofs.lemmas.List.{flat_map_more, map-id}
+use Rattle.std.proofs.lemmas.List.FromFn.{map-range_with_len_more}
+use Rattle.std.proofs.lemmas.Option.{gets, none-some, same_Some}
 use Rattle.cdb_base.specs.declared.name.MsgName.{MsgName}
 use Rattle.cdb_message.specs.Mail.{MailState, sent_names, is_open, is_above, copies_for}
 use Rattle.cdb_message.specs.Names.{is_name_below}
@@ -11,12 +15,9 @@ use Rattle.cdb_message.proofs.RisingNumbers.{Rise, all-mapped, below-not_back, n
 
 -- ---- the order of names
 
-below-trans : (a b c : MsgName) → is_name_below a b ≡ true → is_name_below b c ≡ true → is_name_below a c ≡ true
-below-trans a b c h k = grind (arith, nat_tests)
-
 above-trans : (after : Option MsgName) (a b : MsgName) → is_above after a ≡ true → is_name_below a b ≡ true → is_above after b ≡ true
 above-trans None a b h k = refl
-above-trans (Some name) a b h k = below-trans name a b h k
+above-trans (Some name) a b h k = grind (arith, nat_tests)
 
 -- ---- lists in that order
 
@@ -46,20 +47,15 @@ all-true test (x ∷ xs) all = rw all.0 (ap (λ rest. x ∷ rest) (all-true test
 
 found-all : {A : Type 0} (P : A → Type 0) (test : A → Bool) (xs : List A) (x : A) → AllByRecursion P xs → find test xs ≡ Some x → P x
 found-all P test [] x all found = absurd (none-some x found)
-found-all P test (y ∷ ys) x all found = go (test y) (λ more. found-all P test ys x all.1 more) found
-  where
-    go : (b : Bool) → (find test ys ≡ Some x → P x) → cond b (Some y) (find test ys) ≡ Some x → P x
-    go true rest h = subst P (same_Some y x h) all.0
-    go false rest h = rest h
+found-all P test (y ∷ ys) x all found = elim (cases_Bool (test y)) [
+  | inl here ↦ rw (← same_Some y x (rw here at found)) all.0
+  | inr not ↦ found-all P test ys x all.1 (rw not at found)
+]
 
 -- where nothing is found, nothing is left
 pub found-none : {A : Type 0} (test : A → Bool) (xs : List A) → find test xs ≡ None → filter test xs ≡ []
 found-none test [] none = refl
-found-none test (x ∷ xs) none = go (test x) (λ rest. found-none test xs rest) none
-  where
-    go : (b : Bool) → (find test xs ≡ None → filter test xs ≡ []) → cond b (Some x) (find test xs) ≡ None → cond b (x ∷ filter test xs) (filter test xs) ≡ []
-    go true rest h = absurd (none-some x (sym h))
-    go false rest h = rest h
+found-none test (x ∷ xs) none = let rest = found-none test xs in grind (arith, common_steps, gets)
 
 -- those that are left stand above the one found
 pub found-next : (after : Option MsgName) (names : List MsgName) (name : MsgName) → Rise names → find (is_above after) names ≡ Some name
@@ -115,9 +111,6 @@ fewer-left after names name rise found = let fewer = ap length (found-next after
 -- process after process
 pub flat_map-more : {A : Type 0} (shown : ℕ → List A) (a n : ℕ)
     → flat_map shown (range_with_len a (n + 1)) ≡ flat_map shown (range_with_len a n) ++ shown (a + n)
-flat_map-more shown a zero = let same : a + 0 ≡ a = omega arith in rw same (append-nil (shown a))
-flat_map-more shown a (suc n) =
-    let same : a + suc n ≡ a + 1 + n = omega arith in
-    let more : suc n + 1 ≡ suc (n + 1) = omega arith in
-    rw (more, same) (ap (λ rest. shown a ++ rest) (flat_map-more shown (a + 1) n)
-    ∙ sym (append_assoc (shown a) (flat_map shown (range_with_len (a + 1) n)) (shown (a + 1 + n))))
+flat_map-more shown a n =
+    ap (flat_map shown) (simp map-id at (map-range_with_len_more (λ (k : ℕ). k) a n (a + n) refl))
+    ∙ sym (flat_map_more shown [] (range_with_len a n) (a + n))

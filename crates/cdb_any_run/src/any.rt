@@ -1,7 +1,7 @@
 //! A run of the algorithm that its setup names, and what is asked of it by numbers and names.
 
 ghost use Rattle.std.specs.Prelude.{◌≡◌, ◌≤◌, ◌↔◌, None, Some, IsTrue, IfNone, IsOk, IfOk};
-ghost use Rattle.std.specs.Prelude.{All, OnOk, OnErr, true, option_map, vec_capacity};
+ghost use Rattle.std.specs.Prelude.{All, OnOk, OnErr, true, length, option_map, vec_capacity};
 ghost use Rattle.std.specs.Vec.{vec_items};
 ghost use Rattle.cdb_base.specs.Results.{MapsTo};
 ghost use Rattle.cdb_agreement.specs.Algorithms.{rules};
@@ -13,8 +13,8 @@ ghost use Rattle.cdb_message.specs.Mail.{next_pending, is_lost};
 ghost use Rattle.cdb_rules.specs.Agreement.{AllAgree, AreProposed, HasMajorityIfNeeded};
 ghost use Rattle.cdb_rules.specs.Auto.{first_step_by};
 ghost use Rattle.cdb_rules.specs.ByRules.{IsNext, IsInOrder, process_in, alive_in, steps_in, queries_in};
-ghost use Rattle.cdb_rules.specs.ByRules.{place_in, round_in, decision_in, mail_in, writes_in, decisions_in};
-ghost use Rattle.cdb_rules.specs.ByRules.{result_of_step, result_of_again, result_of_loss};
+ghost use Rattle.cdb_rules.specs.ByRules.{place_in, round_in, decision_in, mail_in, registers_in};
+ghost use Rattle.cdb_rules.specs.ByRules.{writes_in, decisions_in, result_of_step, result_of_again, result_of_loss};
 ghost use Rattle.cdb_rules.specs.EventRefs.{name_given};
 ghost use Rattle.cdb_rules.specs.Refusals.{IsOfRun};
 ghost use Rattle.cdb_rules.specs.Runs.{step_name, loss_name, IsNumberAmong, RollsBackOnto, result_of_undo};
@@ -22,13 +22,16 @@ ghost use Rattle.cdb_rules.specs.Runs.{result_of_rollback, causes_in, with_resul
 ghost use Rattle.cdb_rules.specs.Runs.{CanUndo, IsJustTaken, IsExactRollback, AreCausesOf, RemovesOfRun};
 ghost use Rattle.cdb_rules.specs.Step.{is_among};
 ghost use Rattle.cdb_rules.specs.Views.{seen_as};
+ghost use Rattle.cdb_run.specs.Found.{IsFound};
 
-use crate::shown::{view_of, writes_of};
+use crate::shown::view_of;
 use cdb_alpha::Alpha;
 use cdb_base::{
     Act, CopyName, Event, MsgName, NoMemory, Proc, ProcView, Refusal, Reg, StepId, Val,
 };
 use cdb_leader::Leader;
+use cdb_message::mail::Mail;
+use cdb_register::Registers;
 use cdb_rules::{EventRef, Runs};
 use cdb_run::Run;
 use cdb_standing::History;
@@ -246,6 +249,13 @@ impl AnyRun {
         by_machine!(&mut self.run, run => run.rollback_lost(alloc, s, m, p))
     }
 
+    /// The name of a standing event; or the first refusal that holds: `NoProcess` or `NoStep`.
+    pub(crate) fn find(&self, event: EventRef) -> Result<StepId, Refusal>
+        ensures { IsFound self.now (name_given event) result }
+    {
+        by_machine!(&self.run, run => run.find(event))
+    }
+
     /// The direct causes of a standing event, in order of process, at most one of each; or the first refusal that
     /// holds: `NoProcess` or `NoStep`. It takes no memory.
     pub fn causes_of(&self, alloc: Global, event: EventRef) -> Result<SmallVec<StepId, 9>, Refusal>
@@ -340,11 +350,26 @@ impl AnyRun {
         self.view_of(p).decision
     }
 
+    /// The mail as it stands.
+    pub(crate) fn its_mail(&self) -> &Mail
+        ensures mail { result.now ≡ mail_in rules self.now }
+        ensures receivers { length result.now.received ≡ self.now.setup.processes }
+    {
+        by_machine!(&self.run, run => run.mail())
+    }
+
+    /// The registers as they stand.
+    pub(crate) fn its_registers(&self) -> &Registers
+        ensures { result.now ≡ registers_in rules self.now }
+    {
+        by_machine!(&self.run, run => run.registers())
+    }
+
     /// How many writes of the register stand, where the run has it: Alpha alone has registers.
     pub fn writes(&self, register: Reg) -> Option<u32>
         ensures { result ≡ writes_in rules self.now register }
     {
-        by_machine!(&self.run, run => writes_of(run, register))
+        Some(self.its_registers().state(register)?.writes)
     }
 
     /// The least name above `after`, by sender and number, of a message that was sent and whose copy
@@ -353,14 +378,14 @@ impl AnyRun {
         requires { p ≤ self.now.setup.processes }
         ensures { result ≡ next_pending (mail_in rules self.now) p after }
     {
-        by_machine!(&self.run, run => run.pending(p, after))
+        self.its_mail().pending(p, after)
     }
 
     /// Whether the copy is lost.
     pub fn lost(&self, copy: CopyName) -> bool
         ensures { result ≡ is_lost (mail_in rules self.now) copy }
     {
-        by_machine!(&self.run, run => run.lost(copy))
+        self.its_mail().lost(copy.to, copy.msg)
     }
 
     /// Whether both runs are in the same state, that is, whether their histories are equal up to
@@ -378,6 +403,13 @@ impl AnyRun {
         }
     }
 
+    /// Each process that has decided with its value, by the machine.
+    fn decided(&self, alloc: Global) -> Result<Vec<(Proc, Val)>, NoMemory>
+        ensures { IfOk result (λ v. v.items ≡ decisions_in rules self.now) }
+    {
+        by_machine!(&self.run, run => run.decisions(alloc))
+    }
+
     /// The decisions that stand: each process that has decided with its value, in order. No two values
     /// differ, unless the algorithm is the leader-based one and a quorum at most half of the processes, and
     /// each was the input of a process. `NoMemory` if a growth is refused.
@@ -389,6 +421,6 @@ impl AnyRun {
     {
         let _ranges = self.setup().n();
         let _valid = self.history();
-        by_machine!(&self.run, run => run.decisions(alloc))
+        self.decided(alloc)
     }
 }

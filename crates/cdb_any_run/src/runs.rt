@@ -1,15 +1,13 @@
 //! A run of the algorithm that its setup names, as one that keeps to the rules of its setup.
 
 ghost use Rattle.std.specs.Prelude.{◌≡◌, ◌≤◌, ◌++◌, OnOk, option_to_list};
-ghost use Rattle.cdb_agreement.proofs.KeptHistories.{rules_keep_histories};
-ghost use Rattle.cdb_agreement.proofs.Lawful.{rules_are_lawful};
+ghost use Rattle.cdb_agreement.proofs.Lawful.{rules_keep_histories, rules_are_lawful};
 ghost use Rattle.cdb_agreement.specs.Algorithms.{rules as rules_of_setup};
 ghost use Rattle.cdb_agreement.specs.SameState.{ReachSameState};
 ghost use Rattle.cdb_rules.specs.ByRules.{mail_in};
 ghost use Rattle.cdb_rules.specs.Views.{open_copies, shown_copy};
 
 use crate::any::{AnyRun, ByMachine};
-use crate::shown::cell_of;
 use cdb_base::{
     Act, Cell, Event, MsgName, NoMemory, Payload, Proc, ProcView, Refusal, Reg, StepId, Val,
 };
@@ -123,11 +121,11 @@ impl Runs for AnyRun {
     }
 
     fn payload(&self, name: MsgName) -> Option<&Payload> {
-        by_machine!(&self.run, run => run.payload(name))
+        self.its_mail().payload(name)
     }
 
     fn cell(&self, register: Reg) -> Option<Cell> {
-        by_machine!(&self.run, run => cell_of(run, register))
+        Some(self.its_registers().state(register)?.cell)
     }
 
     fn processes(&self) -> u8 {
@@ -143,13 +141,9 @@ impl Runs for AnyRun {
         alloc: Global,
         event: EventRef,
     ) -> Result<(StepId, SmallVec<StepId, 9>), Refusal> {
-        let _ranges = self.setup().n();
-        let _valid = self.history();
+        let name = self.find(event)?;
         let causes = self.causes_of(alloc, event)?;
-        match event.id() {
-            Some(id) => Ok((id, causes)),
-            None => unreachable!(),
-        }
+        Ok((name, causes))
     }
 
     fn view(&self, p: u32) -> Option<ProcView> {
@@ -157,19 +151,7 @@ impl Runs for AnyRun {
     }
 
     fn cells(&self, alloc: Global) -> Result<Vec<Cell>, NoMemory> {
-        let _ranges = self.setup().n();
-        // Names the type inside a cell, which the check finds in no other part of the function.
-        let _value: Option<Val> = None;
-        let mut cells = Vec::new(alloc);
-        for p in Proc::all() {
-            if let Some(cell) = self.cell(Reg::R(p)) {
-                cells.push(cell)?;
-            }
-        }
-        if let Some(cell) = self.cell(Reg::Dec) {
-            cells.push(cell)?;
-        }
-        Ok(cells)
+        self.its_registers().cells(alloc)
     }
 
     fn mail(&self, alloc: Global) -> Result<Vec<(Proc, MsgName, Payload)>, NoMemory> {

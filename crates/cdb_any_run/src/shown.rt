@@ -2,10 +2,9 @@
 
 ghost use Rattle.std.specs.Prelude.{◌≡◌, ◌≤◌, Some, option_map};
 ghost use Rattle.cdb_rules.specs.Rules.{rules_of};
-ghost use Rattle.cdb_rules.specs.Runs.{cell_in, writes_in};
 ghost use Rattle.cdb_rules.specs.Views.{seen_as};
 
-use cdb_base::{Cell, Proc, ProcView, Reg};
+use cdb_base::{Proc, ProcView};
 use cdb_process::Process;
 use cdb_run::Run;
 use cdb_setup::Algorithm;
@@ -27,26 +26,4 @@ pub(crate) fn view_of<P: Process>(run: &Run<P>, p: Proc) -> ProcView
         queries: run.queries(p),
         decision: local.decision(),
     }
-}
-
-/// What the register holds, where the run has it.
-pub(crate) fn cell_of<P: Process>(run: &Run<P>, register: Reg) -> Option<Cell>
-    ensures { result ≡ cell_in P.table run.now register }
-{
-    let again = register;
-    if !run.has(again) {
-        return None;
-    }
-    Some(run.cell(register))
-}
-
-/// How many writes of the register stand, where the run has it.
-pub(crate) fn writes_of<P: Process>(run: &Run<P>, register: Reg) -> Option<u32>
-    ensures { result ≡ writes_in P.table run.now register }
-{
-    let again = register;
-    if !run.has(again) {
-        return None;
-    }
-    Some(run.writes(register))
 }

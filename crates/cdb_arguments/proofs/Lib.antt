@@ -1,12 +1,2 @@
-pub mod CommandLine
-pub mod Given
-pub mod Named
-pub mod PlainWords
-pub mod Values
-pub mod Subcommands
-pub mod Numbers
-pub mod SubcommandLines
-pub mod StepLines
-pub mod SeveralLines
 pub mod Requests
 pub mod Turns

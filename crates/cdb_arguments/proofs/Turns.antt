@@ -21,13 +21,7 @@ module _ (setup : Text) (turns : ℕ) (scripts : List Text) where
   of_subcommand sub.Trail rows asks = let same = asks.2 in absurd (cc)
   of_subcommand sub.Slice rows asks = let same = asks.2 in absurd (cc)
   of_subcommand sub.Search rows asks = let same = asks.4 in absurd (cc)
-  of_subcommand sub.Play rows asks = absurd (cc)
-  of_subcommand sub.Debug rows asks = absurd (cc)
-  of_subcommand sub.Replay rows asks = absurd (cc)
-  of_subcommand sub.Shrink rows asks = absurd (cc)
-  of_subcommand sub.Same rows asks = absurd (cc)
-  of_subcommand sub.Clocks rows asks = absurd (cc)
-  of_subcommand sub.Page rows asks = absurd (cc)
+  of_subcommand other rows asks = absurd (cc)
 
   pub race_has_turns : (found : Option (Text × List Row)) → NamesAsked found (Race setup turns scripts) → turns ≤ MAX_TURNS
   race_has_turns None asks = absurd (cc)

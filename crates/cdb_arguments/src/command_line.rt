@@ -12,7 +12,7 @@ use clap::{Arg, Command};
 use std::alloc::{AllocError, Global};
 
 /// The version that `--version` prints after the program's name.
-const VERSION: &str = "1.8.3";
+const VERSION: &str = "1.9.0";
 
 const ABOUT: &str =
     "A reversible debugger for consensus algorithms: plays the commands of a script on one run, and
@@ -379,6 +379,7 @@ fn bare<'a>(alloc: Global, name: &'a str, about: &'a str, after: &'a str) -> Com
 }
 
 /// The subcommand with its arguments.
+#[tactic(auto, using(std::proofs::lemmas::List::Sums::fold_more))]
 fn command_of<'a>(alloc: Global, subcommand: &Subcommand) -> Result<Command<'a>, AllocError>
     ensures app { IfOk result (λ command. app_of command ≡ app_named subcommand.now) }
     ensures local { IfOk result (λ command. (out-Command command).has_globals ≡ false) }

@@ -21,6 +21,7 @@ use clap::{ArgMatches, Error};
 use std::alloc::{AllocError, Global};
 
 /// The matches of the words.
+#[tactic(auto, using(crate::proofs::Requests::program_is_simple, crate::proofs::Requests::program_is_free))]
 fn matches_of<'a>(alloc: Global, words: &'a [&'a str]) -> Result<ArgMatches<'a>, ArgumentsFault>
     ensures ok { IfOk result
         (λ m. subcommand_rows_of m ≡ subcommand_of program (texts words.entry.now)) }
@@ -72,31 +73,40 @@ fn number_of(text: &str) -> u32
     }
 }
 
-/// The number of an argument that may be left out.
-fn number_at(matches: &ArgMatches, id: &str) -> Option<u32>
-    ensures { IsNumberAt id.now (rows_of (found_of matches.now)) result }
-{
-    match matches.get_str(id) {
-        Some(text) => Some(number_of(text)),
-        None => None,
-    }
-}
-
-/// The text of an argument.
-fn text_of<'a>(matches: &ArgMatches<'a>, id: &str) -> &'a str
-    ensures { result.now ≡ text_at id.now (rows_of (found_of matches.now)) }
-{
-    matches.get_str(id).unwrap_or("")
-}
-
 /// The text of an argument that may be left out.
+#[tactic(auto, using(crate::proofs::Requests::first_value))]
 fn any_text_of<'a>(matches: &ArgMatches<'a>, id: &str) -> Option<&'a str>
     ensures { any_text result ≡ first_of id.now (rows_of (found_of matches.now)) }
 {
     matches.get_str(id)
 }
 
+/// The text of an argument.
+fn text_of<'a>(matches: &ArgMatches<'a>, id: &str) -> &'a str
+    ensures { result.now ≡ text_at id.now (rows_of (found_of matches.now)) }
+{
+    any_text_of(matches, id).unwrap_or("")
+}
+
+/// The number of an argument that has to be given.
+fn required_number(matches: &ArgMatches, id: &str) -> u32
+    ensures { IsNumber (text_at id.now (rows_of (found_of matches.now))) result }
+{
+    number_of(text_of(matches, id))
+}
+
+/// The number of an argument that may be left out.
+fn number_at(matches: &ArgMatches, id: &str) -> Option<u32>
+    ensures { IsNumberAt id.now (rows_of (found_of matches.now)) result }
+{
+    match any_text_of(matches, id) {
+        Some(text) => Some(number_of(text)),
+        None => None,
+    }
+}
+
 /// The texts of an argument.
+#[tactic(auto, using(crate::proofs::Requests::raw_values))]
 fn texts_of<'a>(
     alloc: Global,
     matches: &ArgMatches<'a>,
@@ -138,7 +148,7 @@ fn step_of(found: &ArgMatches) -> StepAsked
     ensures { IsStepIn (rows_of (found_of found.now)) result }
 {
     StepAsked {
-        p: number_of(text_of(found, "P")),
+        p: required_number(found, "P"),
         k: number_at(found, "K"),
     }
 }
@@ -147,7 +157,7 @@ fn step_of(found: &ArgMatches) -> StepAsked
 fn any_step_of(found: &ArgMatches) -> Option<StepAsked>
     ensures { IsAnyStepIn (rows_of (found_of found.now)) result }
 {
-    match found.get_str("P") {
+    match any_text_of(found, "P") {
         Some(_) => Some(step_of(found)),
         None => None,
     }
@@ -169,7 +179,7 @@ fn question_of<'a>(found: &ArgMatches<'a>, question: Question) -> Request<'a>
 fn columns_of(found: &ArgMatches) -> u32
     ensures { AreColumns (first_of (codes "N") (rows_of (found_of found.now))) result }
 {
-    match found.get_str("N") {
+    match any_text_of(found, "N") {
         Some(text) => count_of(text),
         None => COLUMNS,
     }
@@ -224,8 +234,8 @@ fn search_of<'a>(found: &ArgMatches<'a>) -> Request<'a>
     Request::Search {
         setup: text_of(found, "SETUP"),
         goal: text_of(found, "GOAL"),
-        seed: number_of(text_of(found, "SEED")),
-        walks: number_of(text_of(found, "WALKS")),
+        seed: required_number(found, "SEED"),
+        walks: required_number(found, "WALKS"),
     }
 }
 
@@ -311,6 +321,7 @@ fn status_of_words(error: &Error) -> u8
 }
 
 /// What `clap` makes of the arguments, as a request.
+#[tactic(auto, using(crate::proofs::Requests::names_one))]
 fn read<'a>(alloc: Global, words: &'a [&'a str]) -> Result<Request<'a>, ArgumentsFault>
     ensures ok { IfOk result
         (λ request. NamesAsked (subcommand_of program (texts words.entry.now)) (asked_for request)) }

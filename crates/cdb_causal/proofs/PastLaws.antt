@@ -1,10 +1,16 @@
 -- The past of an event, by its consequences turned round, and by direct causes.
-use Rattle.std.proofs.Common.{ℕ, zero, suc, ◌≤◌, Bool, ◌⊎◌, inl, inr, ⊎_elim, ◌↔◌, List, refl, subst, arith}
-use Rattle.cdb_causal.specs.Causality.{IsLink, IsConsequence, direct, onward}
+use Rattle.std.proofs.Common.{ℕ, zero, suc, ◌+◌, ◌<◌, ◌≤◌, Bool, ◌⊎◌, inl, inr, ⊎_elim, ◌↔◌, List, refl, subst, arith, ◌++◌}
+use Rattle.cdb_causal.specs.Causality.{IsLink, IsConsequence, IsDirectCause, direct, onward}
 use Rattle.cdb_causal.specs.Laws.{LeadsThrough}
-use Rattle.cdb_causal.specs.Past.{IsInPast, one_link, link_before, HasLedTo}
+use Rattle.cdb_causal.specs.Past.{IsInPast, one_link, link_before, HasLedTo, IsSlice}
+use Rattle.cdb_causal.proofs.Chains.{later_consequence}
 use Rattle.cdb_causal.proofs.Counts.{first_below}
 use Rattle.cdb_causal.proofs.Walks.{linked_or_not}
+use Rattle.cdb_causal.specs.Exchange.{IsExchanged}
+use Rattle.cdb_causal.proofs.Exchanges.{parted_to_end}
+use Rattle.cdb_causal.proofs.Parted.{other_way_round}
+
+-- ---- The past of an event, by its consequences turned round, and by direct causes.
 
 module _ {E : Type 0} (depends : E → E → Bool) (history : List E) where
   -- ---- the consequences turned round
@@ -29,6 +35,10 @@ module _ {E : Type 0} (depends : E → E → Bool) (history : List E) where
 
   pub turned_round : (i j : ℕ) → IsInPast depends history j i ↔ IsConsequence depends history i j
   turned_round i j = ((λ p. from_past p), (λ c. to_past c))
+
+  -- what led to a position stands before it
+  pub earlier : {j i : ℕ} → IsInPast depends history j i → i < j
+  earlier {i = i} past = later_consequence depends history i (from_past past)
 
   -- ---- direct causes
 
@@ -65,3 +75,24 @@ module _ {E : Type 0} (depends : E → E → Bool) (history : List E) where
 
   pub by_direct_causes : (i j : ℕ) → IsInPast depends history j i ↔ LeadsThrough depends history i j
   by_direct_causes i j = (directly i j, λ found. linked_past j i found.0 (found.1).link found.2)
+
+  -- what holds of an event, and with each of that of its direct causes, holds of all that has led to it
+  module _ (at : ℕ) (Holds : ℕ → Type 0) (here : Holds at) (before : (i j : ℕ) → IsDirectCause depends history i j → Holds j → Holds i) where
+    down : (n other : ℕ) → at ≤ other + n → HasLedTo depends history at other → Holds other
+    down n other few (inl same) = rw same here
+    down zero other few (inr past) = let less = earlier past in absurd (omega (arith, few, less))
+    down (suc n) other few (inr past) =
+        let (k, cause, led) = directly other at past in
+        let later = cause.link.later in
+        before other k cause (down n k (omega (arith, few, later)) led)
+
+    pub by_causes : (other : ℕ) → HasLedTo depends history at other → Holds other
+    by_causes other = down at other (omega arith)
+
+-- ---- What led to an event reaches the front of the list by exchanges.
+
+module _ {E : Type 0} (depends : E → E → Bool) (history : List E) (at : ℕ) where
+  pub slice_to_front : (slice others : List E) → IsSlice depends history at slice others → IsExchanged depends history (slice ++ others)
+  slice_to_front slice others p =
+      parted_to_end depends history _ (λ i j not link led. not (inr (linked_past depends history at i j link led))) 0 refl
+      (other_way_round (HasLedTo depends history at) p)

@@ -1,6 +1,6 @@
 -- The events of a history by their names.
-use Rattle.std.specs.Prelude.{◌≡◌, ℕ, ◌≤◌, IsTrue, List, Option, Some, MatchOption}
-use Rattle.cdb_base.specs.Event.{event_name, is_step_of}
+use Rattle.std.specs.Prelude.{◌≡◌, ℕ, ◌≤◌, List, Option, Some, MatchOption}
+use Rattle.cdb_base.specs.Event.{event_name}
 use Rattle.cdb_base.specs.Positions.{nth}
 use Rattle.cdb_base.specs.declared.event.Event.{Event}
 use Rattle.cdb_base.specs.declared.name.StepId.{StepId}
@@ -31,8 +31,3 @@ pub record IsFirstDependent (history : List Event) (at : ℕ) (name : StepId) : 
 -- the name is that of the first event linked to a position; none says that the event there is free
 abbrev pub IsFirstDependentOrFree : List Event → ℕ → Option StepId → Type 0
 IsFirstDependentOrFree history at found = MatchOption found (IsFree depends history at) (IsFirstDependent history at)
-
--- no step of process p stands behind that position
-abbrev pub IsEndOfSteps : List Event → ℕ → ℕ → Type 0
-IsEndOfSteps history p end =
-    (at : ℕ) (event : Event) → nth history at ≡ Some event → IsTrue (is_step_of p event) → at ≤ end

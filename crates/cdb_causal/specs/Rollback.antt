@@ -1,6 +1,6 @@
 -- A list of events without one of them, and without one of them and its consequences.
-use Rattle.std.specs.Prelude.{◌≡◌, ℕ, zero, suc, ◌<◌, Bool, List, [], ◌∷◌, ◌++◌}
-use Rattle.std.specs.Prelude.{◌⊎◌, Some, cond, map, slice_get, take, drop}
+use Rattle.std.specs.Prelude.{◌≡◌, ℕ, zero, suc, Bool, List, [], ◌∷◌, ◌++◌}
+use Rattle.std.specs.Prelude.{◌⊎◌, cond, take, drop}
 use Rattle.std.specs.List.{list_any}
 use Rattle.std.specs.Option.{option_map_or}
 use Rattle.cdb_base.specs.Positions.{nth}
@@ -69,8 +69,3 @@ abbrev pub position_before : ℕ → ℕ → ℕ
 position_before zero other = suc other
 position_before (suc at) zero = zero
 position_before (suc at) (suc other) = suc (position_before at other)
-
--- the events stand at these positions, which are in order
-pub record AreAt {E : Type 0} (history : List E) (positions : List ℕ) (events : List E) : Type 0 where
-  pub stand : map (nth history) positions ≡ map Some events
-  pub rising : (k l i j : ℕ) → k < l → slice_get positions k ≡ Some i → slice_get positions l ≡ Some j → i < j

@@ -11,11 +11,6 @@ use Rattle.cdb_base.specs.declared.name.StepId.{StepId}
 use Rattle.cdb_causal.specs.Dependence.{send_and_loss}
 use Rattle.cdb_causal.specs.Names.{IsNamedAt}
 
--- no loss in the history is that of a copy of what the event sends
-abbrev pub HasNoLostCopy : List Event → Event → Type 0
-HasNoLostCopy history event =
-    (at : ℕ) (copy : CopyName) → nth history at ≡ Some (Lost copy) → send_and_loss event (Lost copy) ≡ false
-
 pub record IsStanding (history : List Event) : Type 0 where
   pub names_differ : (i j : ℕ) (name : StepId) → IsNamedAt history i name → IsNamedAt history j name → i ≡ j
   pub processes : (i p k : ℕ) (kind : Kind) → nth history i ≡ Some (Step p k kind) → (1 ≤ p) × (p ≤ MAX_PROCESSES)

@@ -73,7 +73,7 @@ fn same_process(event: &Event, other: &Event) -> bool
 /// Whether two events depend on each other: both are steps of one process, one sends the message
 /// that the other receives, both access one register and one of them writes it, or one is the loss
 /// of a copy and the other sends its message or receives that copy.
-#[tactic(auto, using(crate::proofs::Effects::by_effect))]
+#[tactic(auto, using(crate::proofs::Symmetry::by_effect))]
 pub fn depends(event: &Event, other: &Event) -> bool
     ensures { result ≡ depends_of event.now other.now }
 {

@@ -45,7 +45,7 @@ pub fn rolled_back_exactly<E>()
 {}
 
 /// The consequences are exactly the events at the positions of the least set, in the order of the list.
-#[tactic(auto, using(crate::proofs::LeastSet::consequences_parted))]
+#[tactic(auto, using(crate::proofs::Chains::consequences_parted))]
 pub fn consequences_exactly<E>()
     ensures { OfPositions E (λ depends events at.
         AreConsequences depends events at (consequences depends events at)) }
@@ -105,7 +105,7 @@ pub fn direct_causes_stay<E>()
 
 /// The direct causes of the last event of a list are those events on which it depends directly, by
 /// the list of what stands between.
-#[tactic(auto, using(crate::proofs::DirectByList::direct_by_list))]
+#[tactic(auto, using(crate::proofs::Walks::direct_by_list))]
 pub fn direct_by_list<E>()
     ensures { OfEvents E (λ depends history at cause. IsDecidedByList depends history at cause) }
 {}

@@ -24,7 +24,7 @@ pub fn past_by_direct_causes<E>()
 
 /// What led to an event needs none of the others: it reaches the front of the list, in order, by exchanges of
 /// independent neighbours alone.
-#[tactic(auto, using(crate::proofs::Slices::slice_to_front))]
+#[tactic(auto, using(crate::proofs::PastLaws::slice_to_front))]
 pub fn slice_to_front<E>()
     ensures { (depends : E → E → Bool) (history : List E) (at : ℕ) (slice others : List E) →
         IsSlice depends history at slice others → IsExchanged depends history (slice ++ others) }

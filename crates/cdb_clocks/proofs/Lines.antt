@@ -1,6 +1,6 @@
 -- The lines of the steps so far.
 use Rattle.std.proofs.Common.{◌≡◌, ℕ, suc, ◌+◌, List, [], ◌∷◌, ◌++◌, Some, slice_get}
-use Rattle.std.proofs.Common.{refl, ap, arith, append-nil}
+use Rattle.std.proofs.Common.{refl, sym, ap, arith, append-nil}
 use Rattle.std.specs.List.{range_with_len}
 use Rattle.std.proofs.lemmas.Grind.{flat_map-append}
 use Rattle.std.proofs.lemmas.List.{map-id}
@@ -24,7 +24,7 @@ module _ (rules : Parts → Rules) (run : RunView) (clocks : List (List ℕ)) (i
 
   -- the lines of the next event, by its line and its clock
   pub its_lines : (event : Event) (clock : List ℕ) (after : RunView) (did : Deed) → slice_get run.history i ≡ Some event → slice_get clocks i ≡ Some clock
-      → line_at rules Shown run (suc i) ≡ line_text rules Shown after did after event
+      → line_text rules Shown after did after event ≡ line_at rules Shown run (suc i)
       → lines_at rules run clocks (suc i) ≡ step_text rules after did clock event
-  its_lines (Step p k kind) clock after did at clock_at line = rw (at, clock_at) (ap (λ (t : List ℕ). clock_text p clock ++ t) line)
+  its_lines (Step p k kind) clock after did at clock_at line = rw (at, clock_at) (ap (λ (t : List ℕ). clock_text p clock ++ t) (sym line))
   its_lines (Lost copy) clock after did at clock_at line = rw at refl

@@ -1,5 +1,5 @@
 -- The rows once the clock of the next step has been added.
-use Rattle.std.proofs.Common.{◌≡◌, ℕ, suc, ◌+◌, ◌≤◌, ◌⊎◌, inl, inr, List, [], ◌∷◌, ◌++◌, length, cond}
+use Rattle.std.proofs.Common.{◌≡◌, ℕ, suc, ◌+◌, ◌≤◌, ◌⊎◌, inl, inr, List, [], length, cond}
 use Rattle.std.proofs.Common.{Some, sym, ap, ◌∙◌, arith}
 use Rattle.std.proofs.lemmas.Grind.{common_steps}
 use Rattle.std.proofs.lemmas.Option.{gets, same_Some}
@@ -11,6 +11,7 @@ use Rattle.cdb_base.specs.declared.event.Kind.{Kind}
 use Rattle.cdb_base.specs.declared.name.CopyName.{CopyName}
 use Rattle.cdb_clocks.specs.Clocks.{IsClock}
 use Rattle.cdb_clocks.specs.Rows.{AreKept}
+use Rattle.cdb_rules.proofs.Undo.{stands_from_one}
 use Rattle.cdb_same.proofs.Ranks.{its_own, next_counted, next_passes, number_is}
 use Rattle.cdb_same.specs.Comparisons.{AreNumberedUpTo, IsComparable}
 use Rattle.cdb_standing.specs.Tables.{row_of, IsPutOn}
@@ -18,16 +19,10 @@ use Rattle.cdb_standing.specs.Tables.{row_of, IsPutOn}
 pub last_position : (at end : ℕ) → at ≤ suc end → (at ≤ end) ⊎ (at ≡ suc end)
 last_position at end few = grind arith
 
-pub at_end : {A : Type 0} (xs : List A) (y : A) (k : ℕ) → k ≡ suc (length xs) → nth (xs ++ y ∷ []) k ≡ Some y
-at_end xs y k is = grind (arith, common_steps, gets)
-
-pub stands_from : (history : List Event) (at : ℕ) (event : Event) → nth history at ≡ Some event → 1 ≤ at
-stands_from history at event stands = grind (arith, common_steps, gets)
-
 -- before the first event the rows are empty
 pub no_rows_kept : (history : List Event) (rows : List (List (List ℕ))) → ((q : ℕ) → row_of rows q ≡ []) → AreKept history 0 rows
 no_rows_kept history rows empty = record {
-  clocks = λ at q l kind there few. absurd (let low = stands_from history at (Step q l kind) there in omega (arith, few, low));
+  clocks = λ at q l kind there few. absurd (let low = stands_from_one history at (Step q l kind) there in omega (arith, few, low));
   lengths = λ q. ap length (empty q);
 }
 

@@ -10,8 +10,7 @@ use Rattle.cdb_standing.specs.Cuts.{cut_of as count_of}
 use Rattle.cdb_standing.specs.Moves.{HasStep}
 
 -- Of process q the steps of the numbers 1 to n, and no others, have led to the event at a position, itself included:
--- the n-th is the
--- last, or n is 0.
+-- the n-th is the last, or n is 0.
 pub record CountsLed (history : List Event) (at q n : ℕ) : Type 0 where
   pub led : (other l : ℕ) (kind : Kind) → nth history other ≡ Some (Step q l kind)
       → (l ≤ n) ↔ HasLedTo depends history at other

@@ -1,9 +1,8 @@
 //! Vector clocks of the standing steps of a run: of each process, how many of its steps have led to a step. The
-//! functions of
-//! `laws` do nothing: the contract of each is the law.
+//! functions of `laws` do nothing: the contract of each is the law.
 //!
 //! ```text
-//! clocks::<AnyRun, _>(alloc, setup, script, &mut output)?;
+//! let text = clocks::<AnyRun>(alloc, &run)?;
 //! ```
 #![tactic(auto)]
 
@@ -11,7 +10,6 @@ mod clock;
 pub mod laws;
 mod rows;
 mod text;
-mod writes;
 
 pub use clock::Clock;
-pub use writes::clocks;
+pub use text::clocks;

@@ -1,18 +1,16 @@
 //! The text of clocks: of each step its clock, and then what it did.
 
-ghost use Rattle.std.specs.Prelude.{◌≡◌, ◌≤◌, ◌++◌, Bool, suc, IfOk, OnOk, length};
+ghost use Rattle.std.specs.Prelude.{◌≡◌, ◌≤◌, ◌++◌, Bool, suc, IfOk, length};
 ghost use Rattle.cdb_clocks.specs.Clocks.{AreClocks};
 ghost use Rattle.cdb_clocks.specs.Texts.{clock_text, comma_text, entries_text, entry_text};
 ghost use Rattle.cdb_clocks.specs.Texts.{first_lines, step_text, IsClocksText};
-ghost use Rattle.cdb_deeds.specs.Deeds.{deed_in, received_by_each};
 ghost use Rattle.cdb_rules.specs.ByRules.{IsInOrder};
-ghost use Rattle.cdb_rules.specs.Runs.{with_event};
 ghost use Rattle.cdb_text.specs.Pushes.{Pushes};
 
 use crate::clock::{Clock, clocks_of};
 use cdb_base::{Event, NoMemory, Proc};
 use cdb_deeds::{Deed, HasDeeds, ReceivedNames};
-use cdb_explain::{Causes, fresh, push_whole, take_next};
+use cdb_explain::{Causes, fresh, next_deed, play_on, push_whole};
 use cdb_rules::{Runs, Trace};
 use cdb_same::history_of;
 use std::alloc::{AllocError, Global};
@@ -24,10 +22,7 @@ fn push_entry(text: &mut String, is_first: bool, q: u8, n: u16) -> Result<(), Al
     if !is_first {
         text.push_str(",")?;
     }
-    text.push_str("\"p")?;
-    write!(text, "{q}")?;
-    text.push_str("\":")?;
-    write!(text, "{n}")
+    write!(text, "\"p{q}\":{n}")
 }
 
 /// Adds the entries of a clock, without those that are 0.
@@ -50,8 +45,7 @@ fn push_clock(text: &mut String, p: Proc, clock: &Clock) -> Result<(), AllocErro
     ensures { Pushes result text.old text.new (clock_text p clock.now) }
 {
     let p = p.number();
-    write!(text, "p{p}")?;
-    text.push_str(" {")?;
+    write!(text, "p{p} {{")?;
     push_entries(text, clock)?;
     text.push_str("}\n")
 }
@@ -78,27 +72,6 @@ fn push_step<T: Runs>(
     }
 }
 
-/// Takes the next event of a run that is played again, and adds its lines.
-fn push_next<T: HasDeeds>(
-    alloc: Global,
-    text: &mut String,
-    again: &mut T,
-    names: &ReceivedNames,
-    event: &Event,
-    clock: &Clock,
-) -> Result<(), NoMemory>
-    requires names { names.now ≡ received_by_each (T.run again.old).history }
-    requires next { IsInOrder T.rules (with_event (T.run again.old) event.now) }
-    ensures taken { OnOk result (T.run again.new ≡ with_event (T.run again.old) event.now) }
-    ensures lines { Pushes result text.old text.new
-        (step_text T.rules (T.run again.new) (deed_in (T.run again.old) event.now) clock.now event.now) }
-{
-    let deed = again.deed(alloc, names, event)?;
-    take_next(alloc, again, event)?;
-    push_step(alloc, text, &deed, again, event, clock)?;
-    Ok(())
-}
-
 /// Adds the lines of each step of a run, with its clock.
 fn push_lines<T: HasDeeds>(
     alloc: Global,
@@ -111,20 +84,23 @@ fn push_lines<T: HasDeeds>(
     ensures { Pushes result text.old text.new (first_lines T.rules run.now clocks.now (length run.now.history)) }
 {
     let mut again = fresh::<T>(alloc, run)?;
-    // Its clause says that the parts of the setup are in range.
-    let _ranges = run.setup().n();
-    let events = run.events();
     let mut names = ReceivedNames::none(alloc)?;
+    let events = run.events();
     for i in 0..events.len() {
-        let event = &events[i];
-        push_next(alloc, text, &mut again, &names, event, &clocks[i])?;
-        names.add(event)?;
+        let deed = next_deed(alloc, &again, &names, run, i)?;
+        play_on(alloc, &mut again, &mut names, run, i)?;
+        push_step(alloc, text, &deed, &again, &events[i], &clocks[i])?;
     }
     Ok(())
 }
 
-/// The text of the clocks of a run.
-pub(crate) fn text_of<T: HasDeeds>(alloc: Global, run: &Trace) -> Result<Vec<u8>, NoMemory>
+/// The standing steps of a run, in their order, each in two lines: its process with its clock, and what it did, as an
+/// explanation has it. A clock has of each process how many of its steps have led to the step, itself included; losses
+/// are left out. Only out of memory is an error.
+///
+/// Promise: The clocks of a run have, for each standing step and each process, how many steps of the process have led
+/// to that step, itself included.
+pub fn clocks<T: HasDeeds>(alloc: Global, run: &Trace) -> Result<Vec<u8>, NoMemory>
     requires { IsInOrder T.rules run.now }
     ensures { IfOk result (λ text. IsClocksText T.rules run.now text.items) }
 {

@@ -19,7 +19,7 @@ use Rattle.cdb_causal.specs.Exchange.{IsExchanged}
 use Rattle.cdb_causal.specs.Names.{IsFirstDependent}
 use Rattle.cdb_causal.specs.Rollback.{IsParted, IsRolledBack, without, remaining, rolled_back}
 use Rattle.cdb_causal.proofs.Chains.{parted}
-use Rattle.cdb_causal.proofs.LastEvent.{last_free, without_push_back}
+use Rattle.cdb_causal.proofs.Walks.{last_free, without_push_back}
 use Rattle.cdb_causal.proofs.Exchanges.{free_to_end, rollback_to_end}
 use Rattle.cdb_causal.proofs.Lists.{push_back}
 use Rattle.cdb_commands.specs.ReplyView.{ReplyView}
@@ -29,90 +29,27 @@ use Rattle.cdb_control.specs.Commands.{undone_by, redone, outcome, reply_of, obe
 use Rattle.cdb_control.specs.Headline.{undoing, undo_reply, rolling_back, SaysTaken, SaysRedone, IsUndoneWhereFree, IsUndoneNext}
 use Rattle.cdb_control.specs.Headline.{RedosLeadBack, IsRolledBackAndForth, HoldsAt, Headline}
 use Rattle.cdb_control.specs.Journal.{replay_from, replay, AreOfSeats}
-use Rattle.cdb_control.specs.Kept.{IsReplayed, AreOfRun}
+use Rattle.cdb_control.specs.Kept.{IsReplayed, IsKept, AreOfRun}
+use Rattle.cdb_control.specs.Room.{StoredState}
 use Rattle.cdb_control.specs.State.{State, first_control_state, redo_of, last_of}
 use Rattle.cdb_commands.specs.declared.command.Command.{Command}
 use Rattle.cdb_commands.specs.declared.command.Command.TheVariants.{Redo, Decisions}
 use Rattle.cdb_control.specs.declared.control.Entry.{Entry}
 use Rattle.cdb_rules.proofs.Alls.{all-replicate}
 use Rattle.cdb_control.proofs.FirstDependent.{free_or_needed}
-use Rattle.cdb_control.proofs.Outcomes.{of_command, undone_to, rolled_to}
+use Rattle.cdb_control.proofs.Along.{IsReplayed-first, IsReplayed-more, obeyed-keeps, undone_exchanged}
+use Rattle.cdb_control.proofs.Outcomes.{undone_to, rolled_to}
 use Rattle.cdb_control.proofs.Refused.{leaves}
-use Rattle.cdb_control.proofs.Table.{last_of_run, obey-adds}
+use Rattle.cdb_control.proofs.Steps.{undone-is, rolled-is}
 use Rattle.cdb_rules.specs.Agreement.{AllAgree, AreProposed}
 use Rattle.cdb_rules.specs.Lawful.{AreLawful, KeepHistories}
 use Rattle.cdb_rules.specs.Refusals.{IsOfRun}
 use Rattle.cdb_rules.specs.Rules.{Rules}
 use Rattle.cdb_rules.specs.Undo.{undo_of, rollback_of}
-use Rattle.cdb_rules.proofs.WhereOk.{undone_free, rolled_back_where_ok}
-use Rattle.cdb_rules.proofs.NamesFound.{stands_from_one}
-use Rattle.cdb_rules.proofs.AllStanding.{free_undone, needed_refused, standing_rolled_back}
+use Rattle.cdb_rules.proofs.Undo.{undone_free, rolled_back_where_ok, stands_from_one, free_undone, needed_refused, standing_rolled_back}
 use Rattle.cdb_setup.specs.Parts.{Parts, IsWithin, AreInRange}
 
--- what is undone could as well have come last
-undone_exchanged : (n : ℕ) (history : List Event) (name : StepId) (done : Event × List Event) → undo_of n history name ≡ Ok done
-    → IsExchanged depends history (done.1 ++ done.0 ∷ [])
-undone_exchanged n history name done is =
-    let u = undone_free n history name done.0 done.1 is in
-    subst (λ (l : List Event). IsExchanged depends history (l ++ done.0 ∷ [])) (sym u.4) (free_to_end depends history u.0 done.0 u.2 u.3)
-
--- ---- what one command does to a valid history
-
-module _ (rules : Rules) (SameState : List Event → List Event → Type 0) (t : State) (lawful : AreLawful rules t.setup)
-    (keeps : KeepHistories rules SameState t.setup) (of_run : AreOfRun t) (valid : IsTrue (rules.valid t.history)) where
-  -- the history stays valid, and an event that the reply tells as taken is one more event at the end
-  pub record Keeps (o : Outcome) : Type 0 where
-    pub valid_after : IsTrue (rules.valid o.after.history)
-    pub taken : (event : Event) → SaysTaken o.reply event → o.after.history ≡ t.history ++ event ∷ []
-
-  -- those that are left, where the others could as well have come last
-  left_valid : (left gone : List Event) → IsExchanged depends t.history (left ++ gone) → IsTrue (rules.valid left)
-  left_valid left gone exchanged = keeps.beginning left gone (keeps.exchanged t.history (left ++ gone) exchanged valid)
-
-  again_valid : (seat : ℕ) (e taken : Event) → last_of (redo_of t seat) ≡ Some e → rules.again t.history e ≡ Ok taken
-      → IsTrue (rules.valid (t.history ++ taken ∷ []))
-  again_valid seat e taken last is =
-      let same = lawful.again t.history e taken is in
-      let again = subst (λ (x : Event). rules.again t.history e ≡ Ok x) same is in
-      subst (λ (x : Event). IsTrue (rules.valid (t.history ++ x ∷ []))) (sym same) (keeps.again t.history valid e (last_of_run t seat e last of_run) again)
-
-  pub obeyed-keeps : (seat : ℕ) (command : Command) → Keeps (outcome rules t seat command)
-  obeyed-keeps seat command =
-      of_command rules t seat Keeps command
-      (record {
-        replied = λ said none one. record { valid_after = valid; taken = λ event says. absurd (none event says) };
-        break_set = λ stop. record { valid_after = valid; taken = λ event says. absurd says };
-        break_gone = λ number. record { valid_after = valid; taken = λ event says. absurd says };
-        resumed = record { valid_after = valid; taken = λ event says. absurd says };
-      })
-      (λ acts. record {
-        step_done = λ p act e is. record { valid_after = keeps.step t.history valid p act e is; taken = λ event says. rw says refl };
-        lost = λ name p e is. record { valid_after = keeps.lose t.history valid name p e is; taken = λ event says. rw says refl };
-        undone = λ name done is.
-            let exchanged = undone_exchanged t.setup.processes t.history name done is in
-            record { valid_after = left_valid done.1 (done.0 ∷ []) exchanged; taken = λ event says. absurd says };
-        rolled_back = λ name removed is.
-            let u = rolled_back_where_ok t.setup.processes t.history name removed.0 removed.1 is in
-            let gone = rolled_back depends t.history u.0 in
-            let exchanged = subst (λ (l : List Event). IsExchanged depends t.history (l ++ gone)) (sym u.5) (rollback_to_end depends t.history u.0) in
-            record { valid_after = left_valid removed.1 gone exchanged; taken = λ event says. absurd says };
-        redone = λ e taken last is. record { valid_after = again_valid seat e taken last is; taken = λ event says. rw says refl };
-        forgot = record { valid_after = valid; taken = λ event says. absurd says };
-      })
-
 -- ---- the commands that undo, roll back and redo
-
-undone-is : (rules : Rules) (t : State) (seat : ℕ) (name : StepId) (r : Result (Event × List Event) Refusal)
-    → undo_of t.setup.processes t.history name ≡ r → outcome rules t seat (undoing name) ≡ granted r t (undone_to t seat)
-unfolding outcome
-undone-is rules t seat (id.Step step) r is = ap (λ x. granted x t (undone_to t seat)) is
-undone-is rules t seat (id.Lost copy) r is = ap (λ x. granted x t (undone_to t seat)) is
-
-rolled-is : (rules : Rules) (t : State) (seat : ℕ) (name : StepId) (r : Result (List Event × List Event) Refusal)
-    → rollback_of t.setup.processes t.history name ≡ r → outcome rules t seat (rolling_back name) ≡ granted r t (rolled_to t seat)
-unfolding outcome
-rolled-is rules t seat (id.Step step) r is = ap (λ x. granted x t (rolled_to t seat)) is
-rolled-is rules t seat (id.Lost copy) r is = ap (λ x. granted x t (rolled_to t seat)) is
 
 redone-is : (rules : Rules) (t : State) (seat : ℕ) (event : Event) → last_of (redo_of t seat) ≡ Some event
     → rules.again t.history event ≡ Ok event → outcome rules t seat Redo ≡ redone rules t seat event
@@ -121,15 +58,6 @@ redone-is rules t seat event top done = grind (arith, common_steps, gets)
 
 -- ---- an undo
 
-not_undone : {A : Type 0} (event : Event) (why : Refusal) → reply.Refused why ≡ reply.Undone event → A
-not_undone event why h = absurd (cc)
-
-same_needed : (one other : StepId) → reply.Refused (NeededBy one) ≡ reply.Refused (NeededBy other) → one ≡ other
-same_needed one other h = cc
-
-same_undone : (one other : Event) → reply.Undone one ≡ reply.Undone other → one ≡ other
-same_undone one other h = cc
-
 module _ (rules : Rules) (SameState : List Event → List Event → Type 0) (t : State)
     (keeps : KeepHistories rules SameState t.setup) (valid : IsTrue (rules.valid t.history)) where
   module _ (seat i : ℕ) (event : Event) (at : nth t.history i ≡ Some event) where
@@ -137,7 +65,7 @@ module _ (rules : Rules) (SameState : List Event → List Event → Type 0) (t :
     name = event_name event
 
     replied_free : IsFree depends t.history i → outcome rules t seat (undoing name) ≡ undone_to t seat (event, without t.history i)
-    replied_free free = undone-is rules t seat name _ (free_undone t.setup.processes t.history name i event (keeps.named t.history valid i event at) free)
+    replied_free free = undone-is rules t seat name (free_undone t.setup.processes t.history name i event (keeps.named t.history valid i event at) free)
 
     said_free : IsFree depends t.history i → undo_reply rules t seat event ≡ reply.Undone event
     said_free free = ap (λ (o : Outcome). o.reply) (replied_free free)
@@ -145,19 +73,22 @@ module _ (rules : Rules) (SameState : List Event → List Event → Type 0) (t :
     said_needed : (later : StepId) → IsFirstDependent t.history i later → undo_reply rules t seat event ≡ reply.Refused (NeededBy later)
     said_needed later first =
         ap (λ (o : Outcome). o.reply)
-        (undone-is rules t seat name _ (needed_refused t.setup.processes t.history name i event (keeps.named t.history valid i event at) later first))
+        (undone-is rules t seat name (needed_refused t.setup.processes t.history name i event (keeps.named t.history valid i event at) later first))
 
     pub undone_where_free : IsUndoneWhereFree rules t seat i event
     undone_where_free =
         record {
           exactly = (
-            λ said. ⊎_elim (λ free. free) (λ later. not_undone event (NeededBy later.0) (sym (said_needed later.0 later.1) ∙ said)) either,
+            λ said. ⊎_elim (λ free. free) (λ later. let is = sym (said_needed later.0 later.1) ∙ said in absurd (cc)) either,
             said_free,
           );
           needed = λ later. (
             λ said. ⊎_elim
-                (λ free. not_undone event (NeededBy later) (sym said ∙ said_free free))
-                (λ first. subst (IsFirstDependent t.history i) (same_needed first.0 later (sym (said_needed first.0 first.1) ∙ said)) first.1)
+                (λ free. let is = sym said ∙ said_free free in absurd (cc))
+                (λ first.
+                let is = sym (said_needed first.0 first.1) ∙ said in
+                let same : first.0 ≡ later = cc in
+                subst (IsFirstDependent t.history i) same first.1)
                 either,
             said_needed later,
           );
@@ -255,10 +186,11 @@ module _ (rules : Rules) (SameState : List Event → List Event → Type 0) (t :
       where
         go : (r : Result (Event × List Event) Refusal) → undo_of t.setup.processes t.history name ≡ r
             → RedosLeadBack rules SameState t seat (obey rules t seat (undoing name)) (event ∷ [])
-        go (Err refusal) is = not_undone event refusal (sym (ap (λ (o : Outcome). o.reply) (undone-is rules t seat name (Err refusal) is)) ∙ said)
+        go (Err refusal) is = let refused = sym (ap (λ (o : Outcome). o.reply) (undone-is rules t seat name is)) ∙ said in absurd (cc)
         go (Ok done) is =
-            let out = undone-is rules t seat name (Ok done) is in
-            let same = same_undone done.0 event (sym (ap (λ (o : Outcome). o.reply) out) ∙ said) in
+            let out = undone-is rules t seat name is in
+            let reply = sym (ap (λ (o : Outcome). o.reply) out) ∙ said in
+            let same : done.0 ≡ event = cc in
             let exchanged = undone_exchanged t.setup.processes t.history name done is in
             redone_after (event ∷ []) done.1 (obey rules t seat (undoing name))
             (subst (λ (e : Event). IsExchanged depends t.history (done.1 ++ e ∷ [])) same exchanged)
@@ -271,7 +203,7 @@ module _ (rules : Rules) (SameState : List Event → List Event → Type 0) (t :
         let name = event_name event in
         let from_one = stands_from_one t.history i event at in
         let out =
-        rolled-is rules t seat name (Ok (reverse gone, left))
+        rolled-is rules t seat name
         (standing_rolled_back t.setup.processes t.history name i event (keeps.named t.history valid i event at)) in
         record {
           gone = gone;
@@ -303,69 +235,26 @@ module _ (rules : Rules) (SameState : List Event → List Event → Type 0) (t :
       among : (seat : ℕ) → IsWithin 1 seats seat → seat - 1 < length t.redo
       among seat within = let low = within.0 in let high = within.1 in omega (arith, low, high, lists)
 
--- ---- along a journal
+-- ---- of journals, by the rules of a setup
 
-module _ (rules : Rules) (SameState : List Event → List Event → Type 0) (setup : Parts)
-    (lawful : AreLawful rules setup) (keeps : KeepHistories rules SameState setup) (seats : ℕ) where
-  record IsSound (t : State) : Type 0 where
-    setup_is : t.setup ≡ setup
-    lists : length t.redo ≡ seats
-    of_run : AreOfRun t
-    valid : IsTrue (rules.valid t.history)
+module _ {rules : Parts → Rules} {same_state : Parts → List Event → List Event → Type 0}
+    (lawful : (given : Parts) → AreInRange given → AreLawful (rules given) given)
+    (keeps : (given : Parts) → AreInRange given → KeepHistories (rules given) (same_state given) given) where
+  of_replayed : {setup : Parts} {seats : ℕ} {journal : List Entry} {t : State} → AreInRange setup
+      → IsReplayed (rules setup) setup seats journal t → Headline rules same_state setup seats journal
+  of_replayed {setup} {seats} {t = t} range is =
+      rw is.replayed
+      (subst (λ (s : Parts). HoldsAt (rules setup) (same_state setup) s seats t) is.setup_is
+      (holds_at (rules setup) (same_state setup) t (rw is.setup_is (lawful setup range)) (rw is.setup_is (keeps setup range))
+      is.of_run is.valid seats is.lists))
 
-  obeyed-sound : (t : State) (e : Entry) → IsSound t → (1 ≤ e.seat) × (e.seat ≤ seats) → IsSound (obey rules t e.seat e.command)
-  obeyed-sound t e sound among =
-      let lawful_here = subst (AreLawful rules) (sym sound.setup_is) lawful in
-      let keeps_here = subst (KeepHistories rules SameState) (sym sound.setup_is) keeps in
-      let high = among.1 in
-      let lists = sound.lists in
-      let adds = obey-adds rules t lawful_here e.seat e.command among.0 (omega (arith, high, lists)) in
-      let kept = obeyed-keeps rules SameState t lawful_here keeps_here sound.of_run sound.valid e.seat e.command in
-      record {
-        setup_is = adds.setup ∙ sound.setup_is;
-        lists = adds.lists ∙ sound.lists;
-        of_run = adds.of_run sound.of_run;
-        valid = kept.valid_after;
-      }
+  pub headline_holds : (setup : Parts) → AreInRange setup → (seats : ℕ) (journal : List Entry) → AreOfSeats seats journal
+      → Headline rules same_state setup seats journal
+  headline_holds setup range seats journal all =
+      let first = IsReplayed-first (lawful setup range) (keeps setup range) in
+      of_replayed range (IsReplayed-more (lawful setup range) (keeps setup range) [] journal first all)
 
-  replayed-sound : (journal : List Entry) (t : State) → IsSound t → AreOfSeats seats journal → IsSound (replay_from rules t journal)
-  replayed-sound [] t sound all = sound
-  replayed-sound (e ∷ es) t sound all = replayed-sound es (obey rules t e.seat e.command) (obeyed-sound t e sound all.0) all.1
-
-  first-sound : IsSound (first_control_state setup seats)
-  first-sound = record {
-    setup_is = refl;
-    lists = length-replicate seats [];
-    of_run =
-        (tt, all-replicate (AllByRecursion (IsOfRun setup)) seats [] tt);
-    valid = keeps.nothing;
-  }
-
-  replay-sound : (journal : List Entry) → AreOfSeats seats journal → IsSound (replay rules setup seats journal)
-  unfolding replay
-  replay-sound journal all = replayed-sound journal (first_control_state setup seats) first-sound all
-
-  pub holds : (journal : List Entry) → AreOfSeats seats journal → HoldsAt rules SameState setup seats (replay rules setup seats journal)
-  holds journal all =
-      let t = replay rules setup seats journal in
-      let sound = replay-sound journal all in
-      subst (λ (s : Parts). HoldsAt rules SameState s seats t) sound.setup_is
-      (holds_at rules SameState t (subst (AreLawful rules) (sym sound.setup_is) lawful)
-      (subst (KeepHistories rules SameState) (sym sound.setup_is) keeps) sound.of_run sound.valid seats sound.lists)
-
--- the same, where the rules are those of the setup
-pub headline_holds : (rules : Parts → Rules) (same_state : Parts → List Event → List Event → Type 0)
-    → ((given : Parts) → AreInRange given → AreLawful (rules given) given)
-    → ((given : Parts) → AreInRange given → KeepHistories (rules given) (same_state given) given)
-    → (setup : Parts) → AreInRange setup → (seats : ℕ) (journal : List Entry) → AreOfSeats seats journal → Headline rules same_state setup seats journal
-headline_holds rules same_state lawful keeps setup range seats journal all =
-    holds (rules setup) (same_state setup) setup (lawful setup range) (keeps setup range) seats journal all
-
--- and for a control, which keeps to its journal
-pub replayed-headline : (rules : Parts → Rules) (same_state : Parts → List Event → List Event → Type 0)
-    → ((given : Parts) → AreInRange given → AreLawful (rules given) given)
-    → ((given : Parts) → AreInRange given → KeepHistories (rules given) (same_state given) given)
-    → {setup : Parts} {seats : ℕ} {journal : List Entry} {t : State} → IsReplayed (rules setup) setup seats journal t
-    → Headline rules same_state setup seats journal
-replayed-headline rules same_state lawful keeps {setup} {seats} {journal} is =
-    headline_holds rules same_state lawful keeps setup is.in_range seats journal is.of_seats
+  -- and of what is kept of a control
+  pub kept_headline : {seats space : ℕ} {journal : List Entry} {room_ends : List ℕ} {stored : StoredState}
+      → IsKept rules seats journal space room_ends stored → Headline rules same_state stored.state.setup seats journal
+  kept_headline kept = of_replayed kept.in_range kept.replayed

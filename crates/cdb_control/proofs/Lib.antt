@@ -1,7 +1,6 @@
 pub mod Numbers
 pub mod Outcomes
-pub mod Held
-pub mod Table
+pub mod RedoLists
 pub mod Room
 pub mod Along
 pub mod Steps

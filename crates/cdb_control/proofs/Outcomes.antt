@@ -18,9 +18,8 @@ use Rattle.cdb_commands.specs.declared.command.Stop.{Stop}
 use Rattle.cdb_commands.specs.declared.command.View.TheVariants as view
 use Rattle.cdb_control.specs.Auto.{choice}
 use Rattle.cdb_control.specs.Commands.{Outcome, replied, refused, unless, granted, found, unpaused, step_done, lost, undone_by}
-use Rattle.cdb_control.specs.Commands.{redone, break_set, break_gone, why, outcome}
+use Rattle.cdb_control.specs.Commands.{redone, break_set, break_gone, why, outcome, ActsOnNoRun}
 use Rattle.cdb_control.specs.Headline.{SaysTaken}
-use Rattle.cdb_control.specs.Laws.{ActsOnNoRun}
 use Rattle.cdb_control.specs.Room.{cost}
 use Rattle.cdb_control.specs.State.{State, redo_of, with_redo, last_of}
 use Rattle.cdb_control.specs.Stops.{names_none_of}

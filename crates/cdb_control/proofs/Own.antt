@@ -21,12 +21,9 @@ Begins-trans a b c x y = (x.0 ++ y.0, y.1 ∙ ap (λ l. l ++ y.0) x.1 ∙ append
 pub Begins-push : (a b : List Entry) (e : Entry) → Begins a b → Begins a (b ++ e ∷ [])
 Begins-push a b e x = (x.0 ++ e ∷ [], ap (λ l. l ++ e ∷ []) x.1 ∙ append_assoc a x.0 (e ∷ []))
 
-if_append : (b : Bool) (x : Command) (xs ys zs : List Command) → zs ≡ xs ++ ys → cond b (x ∷ zs) zs ≡ cond b (x ∷ xs) xs ++ ys
-if_append b x xs ys zs same = grind (arith, common_steps, gets)
-
 pub own-append : (seat : ℕ) (es fs : List Entry) → own seat (es ++ fs) ≡ own seat es ++ own seat fs
 own-append seat [] fs = refl
-own-append seat (e ∷ es) fs = if_append (e.seat == seat) e.command (own seat es) (own seat fs) (own seat (es ++ fs)) (own-append seat es fs)
+own-append seat (e ∷ es) fs = grind (arith, common_steps, gets, own-append seat es fs)
 
 same_seat : (n : ℕ) → (n == n) ≡ true
 same_seat n = grind arith
@@ -41,33 +38,22 @@ own-push_other seat other es command apart =
     other_seat : (n m : ℕ) → n ≢ m → (n == m) ≡ false
     other_seat n m ne = grind arith
 
-replies_if : (b : Bool) (r : ReplyView) (xs ys zs : List ReplyView) → zs ≡ xs ++ ys → cond b (r ∷ zs) zs ≡ cond b (r ∷ xs) xs ++ ys
-replies_if b r xs ys zs same = grind (arith, common_steps, gets)
-
 pub replies_from-append : (rules : Rules) (t : State) (seat : ℕ) (es fs : List Entry)
     → replies_from rules t seat (es ++ fs) ≡ replies_from rules t seat es ++ replies_from rules (replay_from rules t es) seat fs
 replies_from-append rules t seat [] fs = refl
 replies_from-append rules t seat (e ∷ es) fs =
-    let next = obey rules t e.seat e.command in
-    replies_if (e.seat == seat) (reply_of rules t e.seat e.command) (replies_from rules next seat es)
-    (replies_from rules (replay_from rules next es) seat fs) (replies_from rules next seat (es ++ fs)) (replies_from-append rules next seat es fs)
+    grind (arith, common_steps, gets, replies_from-append rules (obey rules t e.seat e.command) seat es fs)
 
 -- a list that is the same after something was added: nothing was added
 nothing_added : {A : Type 0} (xs ys : List A) → xs ++ ys ≡ xs → ys ≡ []
 nothing_added [] ys e = e
 nothing_added (x ∷ xs) ys e = nothing_added xs ys (cc)
 
-none_if : (b : Bool) (x : Command) (xs : List Command) (r : ReplyView) (rs : List ReplyView)
-    → (xs ≡ [] → rs ≡ []) → cond b (x ∷ xs) xs ≡ [] → cond b (r ∷ rs) rs ≡ []
-none_if b x xs r rs none empty = grind (arith, common_steps, gets)
-
 -- a seat with no command has no reply
 pub replies_from-none : (rules : Rules) (t : State) (seat : ℕ) (es : List Entry) → own seat es ≡ [] → replies_from rules t seat es ≡ []
 replies_from-none rules t seat [] none = refl
 replies_from-none rules t seat (e ∷ es) none =
-    let next = obey rules t e.seat e.command in
-    none_if (e.seat == seat) e.command (own seat es) (reply_of rules t e.seat e.command)
-    (replies_from rules next seat es) (replies_from-none rules next seat es) none
+    grind (arith, common_steps, gets, replies_from-none rules (obey rules t e.seat e.command) seat es)
 
 -- what others did adds no reply of this seat
 pub replies_of-same : (rules : Rules) (setup : Parts) (seats seat : ℕ) (seen journal : List Entry) → Begins seen journal

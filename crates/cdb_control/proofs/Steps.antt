@@ -1,84 +1,147 @@
--- What undo, rollback and redo return and leave, in the words of the table.
+-- What undo, rollback, redo and `forget` return and leave, in the words of the table.
 use Rattle.std.proofs.lemmas.Grind.{common_steps}
 use Rattle.std.proofs.lemmas.Option.{gets}
-use Rattle.std.proofs.Common.{◌≡◌, ℕ, arith, ◌-◌, OnErr, ◌∙◌, List, [], map}
-use Rattle.std.proofs.Common.{set, Option, Some, Result, Ok, Err, sym, ap}
-use Rattle.std.proofs.lemmas.List.{set-get_or}
+use Rattle.std.proofs.Common.{◌≡◌, ℕ, arith, ◌-◌, true, false, List, ◌∷◌, [], ◌++◌, set, Option, Some, Result, Ok, Err, IsOk, None, refl, sym, ap, ◌∙◌}
 use Rattle.std.specs.Result.{result_err}
 use Rattle.cdb_base.specs.Positions.{without_last}
 use Rattle.cdb_base.specs.declared.event.Event.{Event}
+use Rattle.cdb_base.specs.declared.name.StepId.{StepId}
+use Rattle.cdb_base.specs.declared.name.StepId.TheVariants as id
+use Rattle.cdb_base.specs.declared.no_memory.NoMemory.{NoMemory}
 use Rattle.cdb_base.specs.declared.refusal.Refusal.{Refusal}
 use Rattle.cdb_commands.specs.ReplyView as reply
-use Rattle.cdb_control.specs.Commands.{Outcome, granted, decides, outcome}
-use Rattle.cdb_control.specs.State.{State, redo_of, last_of}
-use Rattle.cdb_control.specs.Room.{StoredList, StoredState}
-use Rattle.cdb_control.proofs.Outcomes.{undone_to, rolled_to}
-use Rattle.cdb_control.proofs.Room.{Swap}
-use Rattle.cdb_rules.specs.RunView.{RunView}
+use Rattle.cdb_commands.specs.ReplyView.{is_refused}
+use Rattle.cdb_commands.specs.declared.command.Command.{Command}
 use Rattle.cdb_commands.specs.declared.command.Command.TheVariants as command
+use Rattle.cdb_commands.specs.declared.reply.Reply.{Reply}
+use Rattle.cdb_control.specs.Commands.{Outcome, granted, decides, why, outcome, is_spared}
+use Rattle.cdb_control.specs.Done.{came_out, asking_why, IsPerformed, NoneShrinks}
+use Rattle.cdb_control.specs.Headline.{undoing, rolling_back}
+use Rattle.cdb_control.specs.Kept.{HasSpace}
+use Rattle.cdb_control.specs.Room.{StoredState}
+use Rattle.cdb_control.specs.State.{State, redo_of, last_of}
+use Rattle.cdb_control.proofs.Outcomes.{undone_to, rolled_to}
 use Rattle.cdb_rules.specs.Refusals.{with_taken}
 use Rattle.cdb_rules.specs.Rules.{Rules}
-use Rattle.cdb_rules.specs.Undo.{result_alone, left_by, number_removed, with_removed}
+use Rattle.cdb_rules.specs.Undo.{undo_of, rollback_of, result_alone, left_by, number_removed, with_removed}
+use Rattle.cdb_setup.specs.Parts.{Parts}
 
--- what holds anyway holds on an error
-pub on_error : {A E P : Type 0} (r : Result A E) → P → OnErr r P
-on_error (Ok a) holds = tt
-on_error (Err e) holds = holds
+-- a command that was carried out with a reply, and one for which there was no memory
+pub carried_out : {rules : Parts → Rules} {old new : StoredState} {seat : ℕ} {command : Command} {reply : Reply}
+    → came_out reply new.state ≡ outcome (rules old.state.setup) old.state seat command → NoneShrinks old.capacities new.capacities
+    → IsPerformed rules old seat command new (Ok reply)
+carried_out ok grown = record { ok = ok; err = tt; granted = tt; spared = λ _ _. refl; capacities = grown }
 
--- what is refused leaves the history as it was
-pub refused_leaves : (x : Result (Event × List Event) Refusal) (history : List Event) (why : Refusal)
-    → Some why ≡ result_err (result_alone x) → left_by history x ≡ history
-refused_leaves x history why refused = grind (arith, common_steps, gets)
+pub not_carried_out : {rules : Parts → Rules} {old new : StoredState} {seat : ℕ} {command : Command} {refused : NoMemory}
+    → new.state ≡ old.state → is_refused (outcome (rules old.state.setup) old.state seat command).reply ≡ false
+    → (is_spared command ≡ true → HasSpace old seat → ⊥) → NoneShrinks old.capacities new.capacities
+    → IsPerformed rules old seat command new (Err refused)
+not_carried_out same allowed full grown =
+    record { ok = tt; err = same; granted = allowed; spared = λ spared space. absurd (full spared space); capacities = grown }
 
--- ---- what an undo or a rollback answers, together with what it leaves
+-- ---- the causes of an event
+
+pub why_is : (rules : Rules) (t : State) (seat : ℕ) (name : StepId) → outcome rules t seat (asking_why name) ≡ why t name
+unfolding outcome
+why_is rules t seat (id.Step step) = refl
+why_is rules t seat (id.Lost copy) = refl
+
+-- ---- undo and rollback, by what they return of the history
+
+pub undone-is : (rules : Rules) (t : State) (seat : ℕ) (name : StepId) {r : Result (Event × List Event) Refusal}
+    → undo_of t.setup.processes t.history name ≡ r → outcome rules t seat (undoing name) ≡ granted r t (undone_to t seat)
+unfolding outcome
+undone-is rules t seat (id.Step step) is = ap (λ x. granted x t (undone_to t seat)) is
+undone-is rules t seat (id.Lost copy) is = ap (λ x. granted x t (undone_to t seat)) is
+
+pub rolled-is : (rules : Rules) (t : State) (seat : ℕ) (name : StepId) {r : Result (List Event × List Event) Refusal}
+    → rollback_of t.setup.processes t.history name ≡ r → outcome rules t seat (rolling_back name) ≡ granted r t (rolled_to t seat)
+unfolding outcome
+rolled-is rules t seat (id.Step step) is = ap (λ x. granted x t (rolled_to t seat)) is
+rolled-is rules t seat (id.Lost copy) is = ap (λ x. granted x t (rolled_to t seat)) is
+
+-- a refusal leaves the history, and removes nothing
+pub refused_leaves : {A : Type 0} (x : Result (A × List Event) Refusal) (history : List Event) {why : Refusal}
+    → result_err (result_alone x) ≡ Some why → left_by history x ≡ history
+refused_leaves x history is = grind (arith, common_steps, gets)
+
+pub none_removed : (r : Result (List Event) Refusal) (onto : List Event) {why : Refusal} → result_err r ≡ Some why → with_removed onto r ≡ onto
+none_removed r onto is = grind (arith, common_steps, gets)
+
+pub not_refused : {A : Type 0} (r : Result A Refusal) → result_err r ≡ None → IsOk r
+not_refused r is = grind (arith, common_steps, gets)
+
+pub rolled_not_spared : (name : StepId) → is_spared (rolling_back name) ≡ true → ⊥
+rolled_not_spared (id.Step step) is = cc
+rolled_not_spared (id.Lost copy) is = cc
+
+module _ {A : Type 0} (x : Result (A × List Event) Refusal) (t : State) (go : A × List Event → Outcome) where
+  refused_as : {why : Refusal} → result_err (result_alone x) ≡ Some why
+      → (let o : Outcome = record { reply = reply.Refused why; after = t } in o) ≡ granted x t go
+  refused_as is = grind (arith, common_steps, gets)
+
+  granted_as : ((a : A × List Event) → is_refused (go a).reply ≡ false) → IsOk (result_alone x) → is_refused (granted x t go).reply ≡ false
+  granted_as replies ok = grind (arith, common_steps, gets)
 
 -- the state with another history and another redo list of a seat
-abbrev pub with_lists : State → ℕ → List Event → List Event → State
+abbrev with_lists : State → ℕ → List Event → List Event → State
 with_lists t seat history events = record t { history = history; redo = set t.redo (seat - 1) events }
 
-pub unchanged : (t : State) (seat : ℕ) → with_lists t seat t.history (redo_of t seat) ≡ t
-unchanged t seat = ap (λ (lists : List (List Event)). let u : State = record t { redo = lists } in u) (set-get_or t.redo (seat - 1) [])
-
--- where a seat's list gave way to another, and the run to one of the same setup
-pub changed : {s t : StoredState} {lists : List StoredList} {seat : ℕ} {old new : StoredList} {run : RunView} (history : State → List Event)
-    (own : State → List Event → List Event) → Swap t lists seat old new → s ≡ t → run ≡ record { setup = s.state.setup; history = history s.state }
-    → new.events ≡ own s.state old.events → (let u : State =
-    record s.state { setup = run.setup; history = run.history; redo = map (λ l. l.events) (set lists (seat - 1) new) } in u)
-    ≡ with_lists t.state seat (history t.state) (own t.state (redo_of t.state seat))
-changed {s = s} {t = t} {seat = seat} {old = old} history own w view ran is =
-    let list = w.put ∙ ap (λ (l : List Event). set t.state.redo (seat - 1) l) is in
-    (λ j. let u : State = record s.state { setup = (ran j).setup; history = (ran j).history; redo = list j } in u)
-    ∙ ap (λ (v : StoredState). let u : State =
-    record v.state { history = history v.state; redo = set t.state.redo (seat - 1) (own v.state old.events) } in u) view
-    ∙ ap (λ (l : List Event). with_lists t.state seat (history t.state) (own t.state l)) (sym w.at)
-
-pub undone-as : (t u : State) (seat : ℕ) (x : Result (Event × List Event) Refusal) (r : Result Event Refusal) (event : Event)
-    → r ≡ result_alone x → u ≡ with_lists t seat (left_by t.history x) (with_taken (redo_of t seat) r) → r ≡ Ok event
-    → (let o : Outcome = record { reply = reply.Undone event; after = u } in o)
+undone-as : (x : Result (Event × List Event) Refusal) (t : State) (seat : ℕ) {r : Result Event Refusal} {event : Event} (old : List Event) {own : List Event}
+    → r ≡ result_alone x → r ≡ Ok event → redo_of t seat ≡ old → own ≡ old ++ event ∷ []
+    → (let o : Outcome = record { reply = reply.Undone event; after = with_lists t seat (left_by t.history x) own } in o)
     ≡ granted x t (undone_to t seat)
-undone-as t u seat x r event same new done = grind (arith, common_steps, gets)
+undone-as x t seat old same done was is = grind (arith, common_steps, gets)
 
-pub undo_refused-as : (t u : State) (seat : ℕ) (x : Result (Event × List Event) Refusal)
-    (r : Result Event Refusal) (why : Refusal) (go : Event × List Event → Outcome)
-    → r ≡ result_alone x → u ≡ with_lists t seat (left_by t.history x) (with_taken (redo_of t seat) r) → r ≡ Err why
-    → (let o : Outcome = record { reply = reply.Refused why; after = u } in o) ≡ granted x t go
-undo_refused-as t u seat x r why go same new refused = grind (arith, common_steps, gets)
-
-pub rolled_back-as : (t u : State) (seat : ℕ) (x : Result (List Event × List Event) Refusal) (r : Result ℕ Refusal) (count : ℕ)
-    → r ≡ number_removed (result_alone x) → u ≡ with_lists t seat (left_by t.history x) (with_removed (redo_of t seat) (result_alone x)) → r ≡ Ok count
-    → (let o : Outcome = record { reply = reply.RolledBack count; after = u } in o)
+rolled-as : (x : Result (List Event × List Event) Refusal) (t : State) (seat : ℕ) {r : Result ℕ Refusal} {count : ℕ} (old : List Event) {own : List Event}
+    → r ≡ number_removed (result_alone x) → r ≡ Ok count → redo_of t seat ≡ old → own ≡ with_removed old (result_alone x)
+    → (let o : Outcome = record { reply = reply.RolledBack count; after = with_lists t seat (left_by t.history x) own } in o)
     ≡ granted x t (rolled_to t seat)
-rolled_back-as t u seat x r count same new done = grind (arith, common_steps, gets)
+rolled-as x t seat old same done was is = grind (arith, common_steps, gets)
 
-pub rollback_refused-as : (t u : State) (seat : ℕ) (x : Result (List Event × List Event) Refusal)
-    (r : Result ℕ Refusal) (why : Refusal) (go : List Event × List Event → Outcome)
-    → r ≡ number_removed (result_alone x) → u ≡ with_lists t seat (left_by t.history x) (with_removed (redo_of t seat) (result_alone x)) → r ≡ Err why
-    → (let o : Outcome = record { reply = reply.Refused why; after = u } in o) ≡ granted x t go
-rollback_refused-as t u seat x r why go same new refused = grind (arith, common_steps, gets)
+pub not_rolled_back : (x : Result (List Event × List Event) Refusal) {r : Result ℕ Refusal} {why : Refusal}
+    → r ≡ number_removed (result_alone x) → r ≡ Err why → result_err (result_alone x) ≡ Some why
+not_rolled_back x same refused = grind (arith, common_steps, gets)
 
-pub redone-as : (rules : Rules) (t u : State) (seat : ℕ) (undone event : Event) (given : Option ℕ) (r : Result Event Refusal)
-    → Some undone ≡ last_of (redo_of t seat) → r ≡ rules.again t.history undone → u ≡ with_lists t seat (with_taken t.history r) (without_last (redo_of t seat))
-    → given ≡ decides rules (with_taken t.history r) event → r ≡ Ok event
-    → (let o : Outcome = record { reply = reply.Redone event given; after = u } in o) ≡ outcome rules t seat command.Redo
+module _ (rules : Rules) (t : State) (seat : ℕ) (name : StepId) where
+  abbrev undone : Result (Event × List Event) Refusal
+  undone = undo_of t.setup.processes t.history name
+
+  abbrev rolled : Result (List Event × List Event) Refusal
+  rolled = rollback_of t.setup.processes t.history name
+
+  pub undo_granted : IsOk (result_alone undone) → is_refused (outcome rules t seat (undoing name)).reply ≡ false
+  undo_granted ok = rw (undone-is rules t seat name refl) (granted_as undone t (undone_to t seat) (λ a. refl) ok)
+
+  pub undo_refused : {why : Refusal} → result_err (result_alone undone) ≡ Some why
+      → (let o : Outcome = record { reply = reply.Refused why; after = t } in o) ≡ outcome rules t seat (undoing name)
+  undo_refused is = refused_as undone t (undone_to t seat) is ∙ sym (undone-is rules t seat name refl)
+
+  pub undo_done : {r : Result Event Refusal} {event : Event} (old : List Event) {own : List Event}
+      → r ≡ result_alone undone → r ≡ Ok event → redo_of t seat ≡ old → own ≡ old ++ event ∷ []
+      → (let o : Outcome = record { reply = reply.Undone event; after = with_lists t seat (left_by t.history undone) own } in o)
+      ≡ outcome rules t seat (undoing name)
+  undo_done old same done was is = undone-as undone t seat old same done was is ∙ sym (undone-is rules t seat name refl)
+
+  pub rollback_granted : IsOk (result_alone rolled) → is_refused (outcome rules t seat (rolling_back name)).reply ≡ false
+  rollback_granted ok = rw (rolled-is rules t seat name refl) (granted_as rolled t (rolled_to t seat) (λ a. refl) ok)
+
+  pub rollback_refused : {why : Refusal} → result_err (result_alone rolled) ≡ Some why
+      → (let o : Outcome = record { reply = reply.Refused why; after = t } in o) ≡ outcome rules t seat (rolling_back name)
+  rollback_refused is = refused_as rolled t (rolled_to t seat) is ∙ sym (rolled-is rules t seat name refl)
+
+  pub rollback_done : {r : Result ℕ Refusal} {count : ℕ} (old : List Event) {own : List Event}
+      → r ≡ number_removed (result_alone rolled) → r ≡ Ok count → redo_of t seat ≡ old → own ≡ with_removed old (result_alone rolled)
+      → (let o : Outcome = record { reply = reply.RolledBack count; after = with_lists t seat (left_by t.history rolled) own } in o)
+      ≡ outcome rules t seat (rolling_back name)
+  rollback_done old same done was is = rolled-as rolled t seat old same done was is ∙ sym (rolled-is rules t seat name refl)
+
+-- ---- redo
+
+pub redone-as : (rules : Rules) (t : State) (seat : ℕ) {undone event : Event} {given : Option ℕ} {r : Result Event Refusal} {seen old own : List Event}
+    → redo_of t seat ≡ seen → Some undone ≡ last_of seen → r ≡ rules.again t.history undone → r ≡ Ok event → redo_of t seat ≡ old → own ≡ without_last old
+    → given ≡ decides rules (with_taken t.history r) event
+    → (let o : Outcome = record { reply = reply.Redone event given; after = with_lists t seat (with_taken t.history r) own } in o)
+    ≡ outcome rules t seat command.Redo
 unfolding outcome
-redone-as rules t u seat undone event given r top same new decided done = grind (arith, common_steps, gets)
+redone-as rules t seat held top same done was is decided = grind (arith, common_steps, gets)

@@ -196,6 +196,26 @@ outcome rules t seat Resume = record { reply = reply.Resumed; after = record t {
 outcome rules t seat (Show v) = show rules t v
 outcome rules t seat Decisions = replied t (reply.Decisions (rules.decisions t.history))
 
+-- commands that act on no run: they look, or are about breakpoints
+abbrev pub ActsOnNoRun : Command → Type 0
+ActsOnNoRun (Why p k) = Unit {0}
+ActsOnNoRun (WhyLost s m p) = Unit {0}
+ActsOnNoRun (Break stop) = Unit {0}
+ActsOnNoRun (Unbreak number) = Unit {0}
+ActsOnNoRun Resume = Unit {0}
+ActsOnNoRun (Show v) = Unit {0}
+ActsOnNoRun Decisions = Unit {0}
+ActsOnNoRun _ = ⊥
+
+-- the commands that need no memory where their seat has room
+abbrev pub is_spared : Command → Bool
+is_spared (Undo p k) = true
+is_spared (UndoLost s m p) = true
+is_spared Forget = true
+is_spared (Unbreak number) = true
+is_spared Resume = true
+is_spared _ = false
+
 -- the reply to a command of a seat
 abbrev pub reply_of : Rules → State → ℕ → Command → ReplyView
 reply_of rules t seat command = (outcome rules t seat command).reply

@@ -7,8 +7,8 @@ use Rattle.cdb_control.specs.declared.control.Entry.{Entry}
 use Rattle.cdb_setup.specs.Parts.{Parts}
 use Rattle.cdb_rules.specs.Rules.{Rules}
 use Rattle.cdb_control.specs.State.{State, first_control_state}
-use Rattle.cdb_control.specs.Commands.{reply_of, obey}
-use Rattle.cdb_control.specs.Room.{is_spared, lowered, room_of}
+use Rattle.cdb_control.specs.Commands.{reply_of, obey, is_spared}
+use Rattle.cdb_control.specs.Room.{lowered, room_of}
 use Rattle.cdb_commands.specs.ReplyView.{ReplyView, is_refused}
 
 pub record Journaled : Type 0 where

@@ -8,8 +8,7 @@ use Rattle.cdb_control.specs.Stops.{AreBelow}
 use Rattle.cdb_commands.specs.ReplyView.{ReplyView, BreakSet, Refused, is_refused}
 use Rattle.cdb_commands.specs.declared.command.Command.{Command}
 use Rattle.cdb_commands.specs.declared.command.Stop.{Stop}
-use Rattle.cdb_commands.specs.declared.command.Command.TheVariants.{Why, WhyLost, Break, Unbreak}
-use Rattle.cdb_commands.specs.declared.command.Command.TheVariants.{Resume, Show, Decisions}
+use Rattle.cdb_commands.specs.declared.command.Command.TheVariants.{Break}
 use Rattle.cdb_control.specs.declared.control.Entry.{Entry}
 use Rattle.cdb_rules.specs.Rules.{Rules}
 use Rattle.cdb_setup.specs.Parts.{Parts, AreInRange}
@@ -82,17 +81,6 @@ UsesNumbersOnce rules old new command reply =
     AreBelow before.next before.stops × (before.next ≤ after.next)
     × ((stop : Stop) (number : ℕ) → command ≡ Break stop → reply ≡ BreakSet number
     → (number ≡ before.next) × (after.next ≡ before.next + 1))
-
--- commands that act on no run: they look, or are about breakpoints
-abbrev pub ActsOnNoRun : Command → Type 0
-ActsOnNoRun (Why p k) = Unit {0}
-ActsOnNoRun (WhyLost s m p) = Unit {0}
-ActsOnNoRun (Break stop) = Unit {0}
-ActsOnNoRun (Unbreak number) = Unit {0}
-ActsOnNoRun Resume = Unit {0}
-ActsOnNoRun (Show view) = Unit {0}
-ActsOnNoRun Decisions = Unit {0}
-ActsOnNoRun _ = ⊥
 
 -- the history, and the redo list of each seat
 abbrev pub KeepsRun : State → State → Type 0

@@ -1,19 +1,7 @@
 -- Room: how many more commands of any seat there may be before a seat's undo can need memory.
-use Rattle.std.specs.Prelude.{ℕ, ◌-◌, Bool, true, false, List, map, max, slice_index_or, slice_set}
-use Rattle.cdb_base.specs.declared.event.Event.{Event}
+use Rattle.std.specs.Prelude.{ℕ, ◌-◌, List, map, max, slice_index_or, slice_set}
 use Rattle.cdb_commands.specs.ReplyView.{ReplyView, RolledBack}
 use Rattle.cdb_control.specs.State.{State}
-use Rattle.cdb_commands.specs.declared.command.Command.{Command}
-use Rattle.cdb_commands.specs.declared.command.Command.TheVariants.{Undo, UndoLost, Forget, Unbreak, Resume}
-
--- the commands that need no memory where their seat has room
-abbrev pub is_spared : Command → Bool
-is_spared (Undo p k) = true
-is_spared (UndoLost s m p) = true
-is_spared Forget = true
-is_spared (Unbreak number) = true
-is_spared Resume = true
-is_spared _ = false
 
 -- what a command takes of its own seat's room: a rollback as many as it removed, all else one
 abbrev pub cost : ReplyView → ℕ
@@ -34,11 +22,6 @@ lowered rooms seat reply = with_room (map (λ room. room - 1) rooms) seat (room_
 -- the rooms after room was made for this many commands of a seat
 abbrev pub raised : List ℕ → ℕ → ℕ → List ℕ
 raised rooms seat count = with_room rooms seat (max count (room_of rooms seat))
-
--- a redo list in memory: its events, and how many it can hold without more memory
-pub record StoredList : Type 0 where
-  pub events : List Event
-  pub capacity : ℕ
 
 -- a control state in memory: for each seat also how many events its redo list can hold without more memory
 pub record StoredState : Type 0 where

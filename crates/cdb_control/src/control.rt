@@ -1,6 +1,6 @@
 //! The control: the control state, and the journal that led to it.
-ghost use Rattle.std.specs.Prelude.{◌≡◌, ◌≢◌, true, false, ◌+◌, ◌-◌, ◌<◌, ◌≤◌, ◌↔◌, ◌⊎◌, max, Err, IfOk, OnOk};
-ghost use Rattle.std.specs.Prelude.{OnErr, length, replicate, vec_len, vec_capacity, ◌++◌, ◌∷◌, []};
+ghost use Rattle.std.specs.Prelude.{◌≡◌, ◌≢◌, true, false, ◌-◌, ◌<◌, ◌≤◌, ◌↔◌, ◌⊎◌, max, Err, IfOk, OnOk};
+ghost use Rattle.std.specs.Prelude.{OnErr, length, replicate, vec_capacity, ◌++◌, ◌∷◌, []};
 ghost use Rattle.std.specs.Result.{result_ok};
 ghost use Rattle.cdb_commands.specs.ReplyView.{reply_view};
 ghost use Rattle.cdb_control.specs.Auto.{choice};
@@ -88,9 +88,9 @@ pub struct Control<R: Runs> {
 }
 
 impl<R: Runs> Model for Control<R> {
-    ghost use Rattle.std.specs.Prelude.{vec_len, vec_capacity};
+    ghost use Rattle.std.specs.Prelude.{length, vec_capacity};
     ghost use Rattle.cdb_control.specs.Journal.{Journaled};
-    ghost use Rattle.cdb_control.specs.Kept.{IsReplayed, HoldsRooms, rooms_at};
+    ghost use Rattle.cdb_control.specs.Kept.{IsKept, rooms_at};
 
     ghost Value = { Journaled };
 
@@ -98,13 +98,11 @@ impl<R: Runs> Model for Control<R> {
       setup = c.state.state.setup;
       seats = c.seats;
       journal = c.journal.items;
-      rooms = rooms_at (vec_len c.journal) c.room_ends.items;
+      rooms = rooms_at (length c.journal.items) c.room_ends.items;
     } };
 
-    ghost invariant = { λ c. IsReplayed (R.rules c.state.state.setup)
-        c.state.state.setup c.seats c.journal.items c.state.state
-        × HoldsRooms (vec_len c.journal) (vec_capacity c.journal)
-        (rooms_at (vec_len c.journal) c.room_ends.items) c.state };
+    ghost invariant = { λ c. IsKept R.rules c.seats c.journal.items
+        (vec_capacity c.journal) c.room_ends.items c.state };
 }
 
 impl<R: Runs> Control<R> {
@@ -289,12 +287,11 @@ fn raise(room_ends: &mut Vec<u32>, seat: u8, room_end: u32)
 /// Makes room for an entry, where the journal may have one more. `JournalFull` comes before `NoMemory`.
 fn make_room(journal: &mut Vec<Entry>) -> Result<(), CallFault>
     ensures items { journal.new.items ≡ journal.old.items }
-    ensures len { vec_len journal.new ≡ vec_len journal.old }
     ensures capacity { vec_capacity journal.old ≤ vec_capacity journal.new }
-    ensures ok { OnOk result (vec_len journal.new < vec_capacity journal.new) }
-    ensures few { OnOk result (vec_len journal.old < MAX_ENTRIES) }
-    ensures full { (result ≡ Err CallFault.JournalFull) ↔ (MAX_ENTRIES ≤ vec_len journal.old) }
-    ensures spared { vec_len journal.old < vec_capacity journal.old →
+    ensures ok { OnOk result (length journal.new.items < vec_capacity journal.new) }
+    ensures few { OnOk result (length journal.old.items < MAX_ENTRIES) }
+    ensures full { (result ≡ Err CallFault.JournalFull) ↔ (MAX_ENTRIES ≤ length journal.old.items) }
+    ensures spared { length journal.old.items < vec_capacity journal.old →
         (refused : NoMemory) → result ≢ Err (CallFault.NoMemory refused) }
 {
     if journal.len() >= MAX_ENTRIES as usize {
@@ -308,9 +305,8 @@ fn make_room(journal: &mut Vec<Entry>) -> Result<(), CallFault>
 
 /// Adds an entry where there is room for it.
 fn push_entry(journal: &mut Vec<Entry>, seat: u8, command: Command)
-    requires { vec_len journal.old < vec_capacity journal.old }
+    requires { length journal.old.items < vec_capacity journal.old }
     ensures items { journal.new.items ≡ journal.old.items ++ entry seat command ∷ [] }
-    ensures len { vec_len journal.new ≡ vec_len journal.old + 1 }
     ensures capacity { vec_capacity journal.new ≡ vec_capacity journal.old }
 {
     // Names each type inside a command: the checker asks for that where an entry is passed for a type parameter.

@@ -11,7 +11,6 @@
 mod control;
 pub mod laws;
 mod one_seat;
-mod redo;
 mod state;
 mod stops;
 

@@ -1,27 +1,23 @@
 //! The control state: a run, the breakpoints, the pause and the redo lists.
-ghost use Rattle.std.specs.Prelude.{◌≡◌, ◌+◌, ◌≤◌, [], true, false, Ok, IfOk, IfErr};
-ghost use Rattle.std.specs.Prelude.{OnOk, OnErr, IsOk, replicate, length, map};
+ghost use Rattle.std.specs.Prelude.{◌≡◌, ◌+◌, ◌≤◌, [], true, Ok, IfOk, IfErr, OnOk, replicate, length, map};
 ghost use Rattle.std.specs.Option.{option_or};
 ghost use Rattle.cdb_base.specs.Limits.{MAX_ENTRIES};
-ghost use Rattle.cdb_control.specs.Done.{came_out, CameOutAs, IsCarriedOut, IsCarriedOutForAny};
-ghost use Rattle.cdb_control.specs.Done.{IsNoRefusal, IsGranted, IsGrantedFromAny, NoneShrinks};
+ghost use Rattle.cdb_control.specs.Done.{came_out, asking_why, IsPerformed, IsPerformedForAny, NoneShrinks};
 ghost use Rattle.cdb_control.specs.Auto.{choice};
 ghost use Rattle.cdb_rules.specs.Auto.{first_act_of};
-ghost use Rattle.cdb_control.specs.Commands.{undo, rollback, why, show, decides, newly_fired, last_step, step_replied};
+ghost use Rattle.cdb_control.specs.Commands.{decides, newly_fired, last_step, step_replied};
+ghost use Rattle.cdb_control.specs.Headline.{undoing, rolling_back};
 ghost use Rattle.cdb_rules.specs.EventRefs.{name_given};
-ghost use Rattle.cdb_rules.specs.Runs.{with_result};
 ghost use Rattle.cdb_rules.specs.Step.{is_among};
 ghost use Rattle.cdb_control.specs.AutoChoices.{IsFreeForAuto, IsRefusedForAuto};
-ghost use Rattle.cdb_control.specs.Room.{is_spared};
-ghost use Rattle.cdb_control.specs.Kept.{capacity_of, HasSpace, events_kept, AreOfRun};
+ghost use Rattle.cdb_control.specs.Kept.{HasSeat, capacity_of, events_kept, AreOfRun};
 ghost use Rattle.cdb_control.specs.State.{first_control_state, redo_of};
 ghost use Rattle.cdb_rules.specs.Views.{round_of, decision_of};
 ghost use Rattle.cdb_setup.specs.Parts.{AreInRange};
 
-use crate::redo::RedoList;
 use crate::stops::{Breakpoints, TakenStep, names_none_of};
 use cdb_base::limits::{MAX_BREAKPOINTS, MAX_STEPS};
-use cdb_base::{Act, Event, NoMemory, Refusal, StepId, Val};
+use cdb_base::{Act, Event, Kind, NoMemory, Refusal, Reg, Val};
 use cdb_commands::{Command, Reply, Stop, View};
 use cdb_rules::{EventRef, Runs};
 use cdb_setup::Setup;
@@ -34,11 +30,12 @@ pub struct ControlState<R: Runs> {
     run: R,
     breakpoints: Breakpoints,
     pause: Option<u32>,
-    redo: Vec<RedoList>,
+    // For each seat the events that it undid and has not taken again, the last undone at the end.
+    redo: Vec<Vec<Event>>,
 }
 
 impl<R: Runs> Model for ControlState<R> {
-    ghost use Rattle.std.specs.Prelude.{map};
+    ghost use Rattle.std.specs.Prelude.{map, vec_capacity};
     ghost use Rattle.cdb_control.specs.Room.{StoredState};
 
     ghost Value = { StoredState };
@@ -50,20 +47,19 @@ impl<R: Runs> Model for ControlState<R> {
         stops = t.breakpoints.stops;
         next = t.breakpoints.next;
         pause = t.pause;
-        redo = map (λ list. list.events) t.redo.items;
+        redo = map (λ list. list.items) t.redo.items;
       };
-      capacities = map (λ list. list.capacity) t.redo.items;
+      capacities = map (λ list. vec_capacity list) t.redo.items;
     } };
 }
 
 /// An empty redo list for each seat.
-fn empty_lists(alloc: Global, seats: u8) -> Result<Vec<RedoList>, NoMemory>
-    ensures { IfOk result
-        (λ lists. map (λ list. list.events) lists.items ≡ replicate seats []) }
+fn empty_lists(alloc: Global, seats: u8) -> Result<Vec<Vec<Event>>, NoMemory>
+    ensures { IfOk result (λ lists. map (λ list. list.items) lists.items ≡ replicate seats []) }
 {
     let mut lists = Vec::new(alloc);
     for _ in 0..seats {
-        lists.push(RedoList::new(alloc))?;
+        lists.push(Vec::new(alloc))?;
     }
     Ok(lists)
 }
@@ -74,13 +70,6 @@ fn refused(refusal: Refusal) -> Result<Reply, NoMemory>
     ensures { result ≡ Ok (Reply.Refused refusal) }
 {
     Ok(Reply::Refused(refusal))
-}
-
-/// The names of causes in a list of their own, so that a reply is small, whatever it says.
-fn listed(alloc: Global, causes: &[StepId]) -> Result<Vec<StepId>, NoMemory>
-    ensures { IfOk result (λ list. list.items ≡ causes.now) }
-{
-    Ok(Vec::from_slice(alloc, causes)?)
 }
 
 /// The first act of those that `auto` tries which the run does not refuse.
@@ -142,9 +131,7 @@ impl<R: Runs> ControlState<R> {
     #[inline(never)]
     #[tactic(auto, unfolding(crate::specs::Commands::outcome))]
     pub fn resume(&mut self) -> Reply
-        ensures table { IsCarriedOutForAny R.rules self.old.state Command.Resume
-            self.new.state result }
-        ensures kept { self.new.capacities ≡ self.old.capacities }
+        ensures { IsPerformedForAny R.rules self.old Command.Resume self.new (Ok result) }
     {
         self.pause = None;
         Reply::Resumed
@@ -154,9 +141,7 @@ impl<R: Runs> ControlState<R> {
     #[inline(never)]
     #[tactic(auto, unfolding(crate::specs::Commands::outcome))]
     pub fn unbreak(&mut self, number: u32) -> Reply
-        ensures table { IsCarriedOutForAny R.rules self.old.state (Command.Unbreak number)
-            self.new.state result }
-        ensures kept { self.new.capacities ≡ self.old.capacities }
+        ensures { IsPerformedForAny R.rules self.old (Command.Unbreak number) self.new (Ok result) }
     {
         if !self.breakpoints.has(number) {
             return Reply::Refused(Refusal::NoBreak);
@@ -170,12 +155,7 @@ impl<R: Runs> ControlState<R> {
     #[tactic(auto, unfolding(crate::specs::Commands::outcome))]
     pub fn set_break(&mut self, stop: Stop) -> Result<Reply, NoMemory>
         requires { self.old.state.next ≤ MAX_ENTRIES }
-        ensures ok { IfOk result
-            (IsCarriedOutForAny R.rules self.old.state (Command.Break stop) self.new.state) }
-        ensures err { OnErr result (self.new.state ≡ self.old.state) }
-        ensures memory { OnErr result
-            (IsGrantedFromAny R.rules self.old.state (Command.Break stop)) }
-        ensures kept { self.new.capacities ≡ self.old.capacities }
+        ensures { IsPerformedForAny R.rules self.old (Command.Break stop) self.new result }
     {
         if names_none_of(self.run.processes(), &stop) {
             return refused(Refusal::NoProcess);
@@ -191,12 +171,9 @@ impl<R: Runs> ControlState<R> {
     #[inline(never)]
     #[tactic(auto, unfolding(crate::specs::Commands::outcome))]
     pub fn forget(&mut self, seat: u8) -> Reply
-        requires from_one { 1 ≤ seat }
-        requires to_last { seat ≤ length self.old.state.redo }
+        requires seat { HasSeat self.old.state seat }
         requires few { events_kept self.old.state ≤ MAX_ENTRIES }
-        ensures table { IsCarriedOut R.rules self.old.state seat Command.Forget
-            self.new.state result }
-        ensures capacities { NoneShrinks self.old.capacities self.new.capacities }
+        ensures { IsPerformed R.rules self.old seat Command.Forget self.new (Ok result) }
     {
         let list = &mut self.redo[seat as usize - 1];
         let count = list.len();
@@ -207,76 +184,71 @@ impl<R: Runs> ControlState<R> {
     /// Makes room in a seat's redo list for this many events more. After `NoMemory` there is as much as
     /// there was.
     pub fn reserve(&mut self, seat: u8, additional: usize) -> Result<(), NoMemory>
-        requires from_one { 1 ≤ seat }
-        requires to_last { seat ≤ length self.old.state.redo }
+        requires { HasSeat self.old.state seat }
         ensures state { self.new.state ≡ self.old.state }
         ensures ok { OnOk result
             (length (redo_of self.old.state seat) + additional ≤ capacity_of self.new seat) }
         ensures capacities { NoneShrinks self.old.capacities self.new.capacities }
     {
-        self.redo[seat as usize - 1].reserve(additional)
+        self.redo[seat as usize - 1].reserve(additional)?;
+        Ok(())
     }
 
     /// Undoes an event on which no standing event depends, and puts it at the end of the seat's
     /// redo list. It needs no memory where there is room for the event.
     #[inline(never)]
     pub fn undo(&mut self, seat: u8, event: EventRef) -> Result<Reply, NoMemory>
-        requires from_one { 1 ≤ seat }
-        requires to_last { seat ≤ length self.old.state.redo }
-        ensures ok { IfOk result
-            (CameOutAs (undo self.old.state seat (name_given event)) self.new.state) }
-        ensures err { OnErr result (self.new.state ≡ self.old.state) }
-        ensures memory { OnErr result
-            (IsNoRefusal (undo self.old.state seat (name_given event))) }
-        ensures capacities { NoneShrinks self.old.capacities self.new.capacities }
-        ensures spared { HasSpace self.old seat → IsOk result }
+        requires { HasSeat self.old.state seat }
+        ensures { IsPerformed R.rules self.old seat (undoing (name_given event)) self.new result }
     {
+        let _kind: Option<Kind> = None;
+        let _register: Option<Reg> = None;
         let list = &mut self.redo[seat as usize - 1];
-        match list.undo(&mut self.run, event)? {
-            Ok(event) => Ok(Reply::Undone(event)),
-            Err(refusal) => refused(refusal),
+        if let Err(error) = list.reserve(1) {
+            // A refusal needs no room in the list.
+            let Some(refusal) = self.run.refuses_undo(event) else {
+                return Err(NoMemory::from(error));
+            };
+            return refused(refusal);
         }
+        let event = match self.run.undo(event) {
+            Ok(event) => event,
+            Err(refusal) => return refused(refusal),
+        };
+        let again = event;
+        list.push_reserved(again);
+        Ok(Reply::Undone(event))
     }
 
     /// Removes an event with its consequences, and puts them on the seat's redo list, the last first.
     #[inline(never)]
     pub fn rollback(&mut self, alloc: Global, seat: u8, event: EventRef) -> Result<Reply, NoMemory>
-        requires from_one { 1 ≤ seat }
-        requires to_last { seat ≤ length self.old.state.redo }
+        requires seat { HasSeat self.old.state seat }
         requires few { events_kept self.old.state ≤ MAX_ENTRIES }
-        ensures ok { IfOk result
-            (CameOutAs (rollback self.old.state seat (name_given event)) self.new.state) }
-        ensures err { OnErr result (self.new.state ≡ self.old.state) }
-        ensures memory { OnErr result
-            (IsNoRefusal (rollback self.old.state seat (name_given event))) }
-        ensures capacities { NoneShrinks self.old.capacities self.new.capacities }
+        ensures { IsPerformed R.rules self.old seat (rolling_back (name_given event)) self.new result }
     {
         let list = &mut self.redo[seat as usize - 1];
-        match list.rollback(alloc, &mut self.run, event)? {
-            Ok(count) => Ok(Reply::RolledBack(count)),
-            Err(refusal) => refused(refusal),
-        }
+        let count = match self.run.rollback(alloc, event, list)? {
+            Ok(count) => count,
+            Err(refusal) => return refused(refusal),
+        };
+        Ok(Reply::RolledBack(count))
     }
 
     /// Takes the seat's last undone event again, and off its redo list.
     #[inline(never)]
     #[tactic(auto, unfolding(crate::specs::Commands::outcome))]
     pub fn redo(&mut self, alloc: Global, seat: u8) -> Result<Reply, NoMemory>
-        requires from_one { 1 ≤ seat }
-        requires to_last { seat ≤ length self.old.state.redo }
+        requires seat { HasSeat self.old.state seat }
         requires of_run { AreOfRun self.old.state }
-        ensures ok { IfOk result
-            (IsCarriedOut R.rules self.old.state seat Command.Redo self.new.state) }
-        ensures err { OnErr result (self.new.state ≡ self.old.state) }
-        ensures memory { OnErr result (IsGranted R.rules self.old.state seat Command.Redo) }
-        ensures capacities { NoneShrinks self.old.capacities self.new.capacities }
+        ensures { IsPerformed R.rules self.old seat Command.Redo self.new result }
     {
-        let Some(undone) = self.redo[seat as usize - 1].last() else {
+        let Some(undone) = self.redo[seat as usize - 1].last().copied() else {
             return refused(Refusal::NothingToRedo);
         };
         match self.run.again(alloc, &undone)? {
             Ok(event) => {
-                self.redo[seat as usize - 1].drop_last();
+                self.redo[seat as usize - 1].pop();
                 let decides = self.decides(&event);
                 Ok(Reply::Redone { event, decides })
             }
@@ -284,21 +256,7 @@ impl<R: Runs> ControlState<R> {
         }
     }
 
-    /// The round of a process, 0 where there is no such process.
-    fn round_of(&self, p: u32) -> u32
-        ensures { result ≡ round_of (R.rules self.now.state.setup) self.now.state.history p }
-    {
-        self.run.view(p).map_or(0, |process| process.round)
-    }
-
-    /// The decision of a process, if it has one.
-    fn decision_of(&self, p: u32) -> Option<Val>
-        ensures { result ≡ decision_of (R.rules self.now.state.setup) self.now.state.history p }
-    {
-        self.run.view(p)?.decision
-    }
-
-    /// Both, asked at once.
+    /// The decision of a process, if it has one, and its round, 0 where there is no such process.
     fn decision_and_round_of(&self, p: u32) -> (Option<Val>, u32)
         ensures decision { result.0
             ≡ decision_of (R.rules self.now.state.setup) self.now.state.history p }
@@ -317,7 +275,7 @@ impl<R: Runs> ControlState<R> {
             ≡ decides (R.rules self.now.state.setup) self.now.state.history event.now }
     {
         match event {
-            Event::Step { p, .. } => self.decision_of(u32::from(p.number())),
+            Event::Step { p, .. } => self.decision_and_round_of(u32::from(p.number())).0,
             Event::Lost(_) => None,
         }
     }
@@ -369,14 +327,9 @@ impl<R: Runs> ControlState<R> {
     #[inline(never)]
     #[tactic(auto, unfolding(crate::specs::Commands::outcome))]
     pub fn step(&mut self, alloc: Global, p: u32, act: Act) -> Result<Reply, NoMemory>
-        ensures ok { IfOk result
-            (IsCarriedOutForAny R.rules self.old.state (Command.Step p act) self.new.state) }
-        ensures err { OnErr result (self.new.state ≡ self.old.state) }
-        ensures memory { OnErr result
-            (IsGrantedFromAny R.rules self.old.state (Command.Step p act)) }
-        ensures kept { self.new.capacities ≡ self.old.capacities }
+        ensures { IsPerformedForAny R.rules self.old (Command.Step p act) self.new result }
     {
-        let round_before = self.round_of(p);
+        let (_, round_before) = self.decision_and_round_of(p);
         match self.run.step(alloc, p, act)? {
             Ok(event) => {
                 let taken = self.last_step(event, p, round_before);
@@ -390,12 +343,7 @@ impl<R: Runs> ControlState<R> {
     #[inline(never)]
     #[tactic(auto, unfolding(crate::specs::Commands::outcome))]
     pub fn lose(&mut self, alloc: Global, s: u32, m: u32, p: u32) -> Result<Reply, NoMemory>
-        ensures ok { IfOk result
-            (IsCarriedOutForAny R.rules self.old.state (Command.Lose s m p) self.new.state) }
-        ensures err { OnErr result (self.new.state ≡ self.old.state) }
-        ensures memory { OnErr result
-            (IsGrantedFromAny R.rules self.old.state (Command.Lose s m p)) }
-        ensures kept { self.new.capacities ≡ self.old.capacities }
+        ensures { IsPerformedForAny R.rules self.old (Command.Lose s m p) self.new result }
     {
         match self.run.lose(alloc, s, m, p)? {
             Ok(event) => Ok(Reply::Stepped {
@@ -447,12 +395,7 @@ impl<R: Runs> ControlState<R> {
     #[tactic(auto, unfolding(crate::specs::Commands::outcome))]
     pub fn auto(&mut self, alloc: Global, p: u32) -> Result<Reply, NoMemory>
         requires { AreInRange self.old.state.setup }
-        ensures ok { IfOk result
-            (IsCarriedOutForAny R.rules self.old.state (Command.Auto p) self.new.state) }
-        ensures err { OnErr result (self.new.state ≡ self.old.state) }
-        ensures memory { OnErr result
-            (IsGrantedFromAny R.rules self.old.state (Command.Auto p)) }
-        ensures kept { self.new.capacities ≡ self.old.capacities }
+        ensures { IsPerformedForAny R.rules self.old (Command.Auto p) self.new result }
     {
         if let Some(number) = self.pause {
             let refusal = self.choose(p).err().unwrap_or(Refusal::Paused(number));
@@ -473,25 +416,16 @@ impl<R: Runs> ControlState<R> {
 
     /// Returns the direct causes of an event.
     #[inline(never)]
+    #[tactic(auto, using(crate::proofs::Steps::why_is))]
     pub fn why(&self, alloc: Global, event: EventRef) -> Result<Reply, NoMemory>
-        ensures ok { IfOk result
-            (CameOutAs (why self.now.state (name_given event)) self.now.state) }
-        ensures memory { OnErr result
-            (IsNoRefusal (why self.now.state (name_given event))) }
+        ensures { IsPerformedForAny R.rules self.now (asking_why (name_given event)) self.now result }
     {
         match self.run.explain(alloc, event) {
-            Ok((name, causes)) => Ok(Reply::Because(name, listed(alloc, causes.as_slice())?)),
+            Ok((name, causes)) => Ok(Reply::Because(
+                name,
+                Vec::from_slice(alloc, causes.as_slice())?,
+            )),
             Err(refusal) => refused(refusal),
-        }
-    }
-
-    fn show_process(&self, p: u32) -> Reply
-        ensures { CameOutAs (show (R.rules self.now.state.setup) self.now.state (View.Proc p))
-            self.now.state result }
-    {
-        match self.run.view(p) {
-            Some(process) => Reply::Proc(process),
-            None => Reply::Refused(Refusal::NoProcess),
         }
     }
 
@@ -499,13 +433,13 @@ impl<R: Runs> ControlState<R> {
     #[inline(never)]
     #[tactic(auto, unfolding(crate::specs::Commands::outcome))]
     pub fn show(&self, alloc: Global, view: View) -> Result<Reply, NoMemory>
-        ensures ok { IfOk result
-            (IsCarriedOutForAny R.rules self.now.state (Command.Show view) self.now.state) }
-        ensures memory { OnErr result
-            (IsGrantedFromAny R.rules self.now.state (Command.Show view)) }
+        ensures { IsPerformedForAny R.rules self.now (Command.Show view) self.now result }
     {
         let reply = match view {
-            View::Proc(p) => self.show_process(p),
+            View::Proc(p) => match self.run.view(p) {
+                Some(process) => Reply::Proc(process),
+                None => return refused(Refusal::NoProcess),
+            },
             View::Regs => Reply::Regs(self.run.cells(alloc)?),
             View::Mail => Reply::Mail(self.run.mail(alloc)?),
             View::History => Reply::History(self.run.events(alloc)?),
@@ -517,9 +451,7 @@ impl<R: Runs> ControlState<R> {
     #[inline(never)]
     #[tactic(auto, unfolding(crate::specs::Commands::outcome))]
     pub fn decisions(&self, alloc: Global) -> Result<Reply, NoMemory>
-        ensures ok { IfOk result
-            (IsCarriedOutForAny R.rules self.now.state Command.Decisions self.now.state) }
-        ensures memory { OnErr result (IsGrantedFromAny R.rules self.now.state Command.Decisions) }
+        ensures { IsPerformedForAny R.rules self.now Command.Decisions self.now result }
     {
         Ok(Reply::Decisions(self.run.decisions(alloc)?))
     }
@@ -527,18 +459,12 @@ impl<R: Runs> ControlState<R> {
     /// Carries a command out, of a seat.
     #[inline(always)]
     pub fn perform(&mut self, alloc: Global, seat: u8, command: Command) -> Result<Reply, NoMemory>
-        requires from_one { 1 ≤ seat }
-        requires to_last { seat ≤ length self.old.state.redo }
+        requires seat { HasSeat self.old.state seat }
         requires few { events_kept self.old.state ≤ MAX_ENTRIES }
         requires numbers { self.old.state.next ≤ MAX_ENTRIES }
         requires of_run { AreOfRun self.old.state }
         requires in_range { AreInRange self.old.state.setup }
-        ensures ok { IfOk result
-            (IsCarriedOut R.rules self.old.state seat command self.new.state) }
-        ensures err { OnErr result (self.new.state ≡ self.old.state) }
-        ensures memory { OnErr result (IsGranted R.rules self.old.state seat command) }
-        ensures capacities { NoneShrinks self.old.capacities self.new.capacities }
-        ensures spared { is_spared command ≡ true → HasSpace self.old seat → IsOk result }
+        ensures { IsPerformed R.rules self.old seat command self.new result }
     {
         match command {
             Command::Step(p, act) => self.step(alloc, p, act),

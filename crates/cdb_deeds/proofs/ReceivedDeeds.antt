@@ -1,10 +1,12 @@
 -- What one event more adds to the names of the messages that the processes have received.
-use Rattle.std.proofs.Common.{◌≡◌, ◌<◌, ℕ, zero, suc, ◌+◌, Bool, true, false, ◌==◌, List, [], ◌∷◌, ◌++◌, Option, Some}
+use Rattle.std.proofs.Common.{◌≡◌, ◌<◌, ℕ, zero, suc, ◌+◌, Bool, false, ◌==◌, List, [], ◌∷◌, ◌++◌, Option, Some}
 use Rattle.std.proofs.Common.{None, set, get_or, map, if◌then◌else◌, refl, sym, ap, ◌∙◌, append-nil, arith}
 use Rattle.std.specs.Prelude.{option_to_list}
 use Rattle.std.specs.List.{range_with_len}
-use Rattle.std.proofs.lemmas.Bool.{eq-eqb, eqb-true}
+use Rattle.std.proofs.lemmas.Bool.{eq-eqb}
+use Rattle.std.proofs.lemmas.Bool.Decides.{nat_tests}
 use Rattle.std.proofs.lemmas.Grind.{flat_map-append}
+use Rattle.std.proofs.lemmas.List.FromFn.{get_or-map-range_with_len}
 use Rattle.cdb_base.specs.Processes as Processes
 use Rattle.cdb_base.specs.declared.event.Event.{Event}
 use Rattle.cdb_base.specs.declared.event.Event.TheVariants.{Step}
@@ -14,11 +16,7 @@ use Rattle.cdb_message.specs.Mail.{message_name}
 use Rattle.cdb_deeds.specs.Deeds.{received_at, received_by_each, received_names}
 
 not_same : (p q : ℕ) → (p ≡ q → ⊥) → (p == q) ≡ false
-not_same p q differs = go (p == q) refl
-  where
-    go : (b : Bool) → (p == q) ≡ b → b ≡ false
-    go true is = elim (differs (eqb-true p q is)) [ ]
-    go false is = refl
+not_same p q differs = grind (arith, nat_tests)
 
 module _ {X : Type 0} (f g : ℕ → X) where
   same_after : (a n : ℕ) → ((q : ℕ) → a < q + 1 → g q ≡ f q) → map g (range_with_len a n) ≡ map f (range_with_len a n)
@@ -45,22 +43,12 @@ row_read f [] i x is = refl
 row_read f (x ∷ xs) zero y is = ap f is
 row_read f (x ∷ xs) (suc i) y is = row_read f xs i y is
 
-read_at : {X : Type 0} (f : ℕ → X) (a n i : ℕ) (d : X) → i < n → get_or (map f (range_with_len a n)) i d ≡ f (a + i)
-read_at f a zero i d less = let none : ⊥ = omega (arith, less) in elim none [ ]
-read_at f a (suc n) zero d less = let at : a ≡ a + 0 = omega arith in ap f at
-read_at f a (suc n) (suc i) d less =
-    let at : (a + 1) + i ≡ a + suc i = omega arith in
-    let rest : i < n = omega (arith, less) in
-    read_at f (a + 1) n i d rest ∙ ap f at
-
 module _ (history : List Event) where
   -- that of a process
   pub names_read : (rows : List (List MsgName)) → rows ≡ received_by_each history
       → (i p : ℕ) (d : List MsgName) → i + 1 ≡ p → i < 9 → get_or rows i d ≡ received_names p history
   unfolding Processes.all_processes
-  names_read rows are i p d at less =
-      let is : 1 + i ≡ p = omega arith in
-      ap (λ (rs : List (List MsgName)). get_or rs i d) are ∙ read_at (λ q. received_names q history) 1 9 i d less ∙ ap (λ (q : ℕ). received_names q history) is
+  names_read rows are i p d at less = rw are (get_or-map-range_with_len (λ q. received_names q history) 1 9 i p d less (omega arith))
 
   one_more : (p : ℕ) (event : Event) → received_names p (history ++ event ∷ []) ≡ received_names p history ++ option_to_list (received_at p event)
   one_more p event =

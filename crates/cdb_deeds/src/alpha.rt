@@ -74,31 +74,16 @@ fn settles(machine: &Alpha) -> Deed
     }
 }
 
-/// What the end of the first pass did.
-fn ends_first(machine: &Alpha) -> Deed
-    ensures { result ≡ judges machine.now (settles machine.now (register_of_value machine.now))
-        (register_of_later machine.now) }
+/// What the end of a pass did: the round is given up where another process entered a later one.
+fn judges(machine: &Alpha, onward: Deed) -> Deed
+    ensures { result ≡ judges machine.now onward (register_of_later machine.now) }
 {
     match register_of_later(machine) {
         Some(register) => Deed::GivesUp {
             round: machine.round(),
             register,
         },
-        None => settles(machine),
-    }
-}
-
-/// What the end of the second pass did.
-fn ends_second(machine: &Alpha) -> Deed
-    ensures { result ≡ judges machine.now (Deed.Carries machine.now.round)
-        (register_of_later machine.now) }
-{
-    match register_of_later(machine) {
-        Some(register) => Deed::GivesUp {
-            round: machine.round(),
-            register,
-        },
-        None => Deed::Carries(machine.round()),
+        None => onward,
     }
 }
 
@@ -117,8 +102,8 @@ fn local_deed(machine: &Alpha) -> Deed
     ensures { result ≡ local_deed machine.now.place machine.now }
 {
     match machine.stands_at() {
-        Place::A4 => ends_first(machine),
-        Place::A7 => ends_second(machine),
+        Place::A4 => judges(machine, settles(machine)),
+        Place::A7 => judges(machine, Deed::Carries(machine.round())),
         _ => Deed::Nothing,
     }
 }

@@ -5,9 +5,8 @@ ghost use Rattle.std.specs.List.{position};
 ghost use Rattle.std.specs.Option.{option_and_then, option_flatten};
 ghost use Rattle.cdb_base.specs.Positions.{nth};
 ghost use Rattle.cdb_base.specs.Processes.{all_processes};
-ghost use Rattle.cdb_leader.specs.Inbox.{first_phase, second_phase, as_decision, is_agreed, agreed_leader};
-ghost use Rattle.cdb_leader.specs.Inbox.{backers, second_phase_from, decision_from, is_only_proposal};
-ghost use Rattle.cdb_leader.specs.Inbox.{if_from, first_phase_from, names as is_named};
+ghost use Rattle.cdb_leader.specs.Inbox.{first_phase, second_phase, as_decision, first_phase_from, second_phase_from};
+ghost use Rattle.cdb_leader.specs.Inbox.{decision_from, if_from, names as is_named};
 ghost use Rattle.cdb_process.specs.Values.{payload_value};
 ghost use Rattle.cdb_deeds.specs.LeaderDeeds.{number_from, number_of_estimate, number_of_proposal, number_of_learnt};
 ghost use Rattle.cdb_deeds.specs.LeaderDeeds.{number_in, messages_in, source_with, source_at, votes, sets_aux};
@@ -83,46 +82,12 @@ fn number_of_decision(inbox: &[Received], sender: Proc) -> Option<usize>
     Some(index_of_decision(inbox, sender)? + 1)
 }
 
-/// How many senders name that process as the leader of the machine's round.
-fn count_backers(machine: &Leader, leader: Proc) -> usize
-    ensures { result ≡ backers machine.now.round leader machine.now.inbox }
-{
-    let round = machine.round();
-    Proc::all()
-        .iter()
-        .filter(|sender| {
-            find_first_phase(machine.received(), round, **sender).is_some_and(|said| said.lead
-                == leader)
-        })
-        .count()
-}
-
-/// Whether a quorum names that process as leader, and its own first-phase message came.
-fn is_agreed(machine: &Leader, leader: Proc) -> bool
-    ensures { result ≡ is_agreed machine.now.quorum machine.now.round machine.now.inbox leader }
-{
-    usize::from(machine.quorum()) <= count_backers(machine, leader)
-        && find_first_phase(machine.received(), machine.round(), leader).is_some()
-}
-
-/// The leader that the senders of the first phase agreed on.
-fn agreed_leader(machine: &Leader) -> Option<Proc>
-    ensures { result ≡ agreed_leader machine.now.quorum machine.now.round machine.now.inbox }
-{
-    for leader in Proc::all() {
-        if is_agreed(machine, leader) {
-            return Some(leader);
-        }
-    }
-    None
-}
-
 /// The number, from 1 on, of the message that a process received from its leader where the first phase ends: of those
 /// in its inbox, in the order of receipt; none where the senders agree on no leader.
 pub fn number_of_estimate(machine: &Leader) -> Option<usize>
     ensures { result ≡ number_of_estimate machine.now }
 {
-    let leader = agreed_leader(machine)?;
+    let leader = machine.agreed_leader()?;
     number_of_first_phase(machine.received(), machine.round(), leader)
 }
 
@@ -267,35 +232,12 @@ fn source_at(machine: &Leader, names: &[MsgName], number: usize) -> Option<Sourc
     Some(Source { value, message })
 }
 
-/// The source of the value with which the first phase ends.
-fn source_of_estimate(machine: &Leader, names: &[MsgName]) -> Option<Source>
-    ensures { result
-        ≡ option_and_then (source_at machine.now names.now) (number_of_estimate machine.now) }
-{
-    source_at(machine, names, number_of_estimate(machine)?)
-}
-
-/// The source of the value with which the second phase ends.
-fn source_of_proposal(machine: &Leader, names: &[MsgName]) -> Option<Source>
-    ensures { result
-        ≡ option_and_then (source_at machine.now names.now) (number_of_proposal machine.now) }
-{
-    source_at(machine, names, number_of_proposal(machine)?)
-}
-
-/// The source of the decision that is adopted.
-fn source_of_learnt(machine: &Leader, names: &[MsgName]) -> Option<Source>
-    ensures { result
-        ≡ option_and_then (source_at machine.now names.now) (number_of_learnt machine.now) }
-{
-    source_at(machine, names, number_of_learnt(machine)?)
-}
-
 /// What the end of the first phase did.
 fn sets_aux(alloc: Global, machine: &Leader, names: &[MsgName]) -> Result<Deed, NoMemory>
     ensures { IfOk result (λ deed. deed ≡ sets_aux machine.now names.now) }
 {
-    match (agreed_leader(machine), source_of_estimate(machine, names)) {
+    let source = number_of_estimate(machine).and_then(|number| source_at(machine, names, number));
+    match (machine.agreed_leader(), source) {
         (Some(leader), Some(source)) => {
             let by = messages_in(alloc, machine, names, &Phase::Naming(leader))?;
             Ok(Deed::Votes { source, leader, by })
@@ -307,30 +249,15 @@ fn sets_aux(alloc: Global, machine: &Leader, names: &[MsgName]) -> Result<Deed, 
     }
 }
 
-/// Whether each second-phase message of the round carries the value.
-fn is_only_proposal(machine: &Leader, value: Val) -> bool
-    ensures { result ≡ is_only_proposal machine.now.round value machine.now.inbox }
-{
-    let round = machine.round();
-    for message in machine.received() {
-        let vote = message.second_phase(round, message.from);
-        if vote.is_some_and(|aux| aux != Some(value)) {
-            return false;
-        }
-    }
-    true
-}
-
 /// What the end of the second phase did.
 fn ends(alloc: Global, machine: &Leader, names: &[MsgName]) -> Result<Deed, NoMemory>
     ensures { IfOk result (λ deed. deed ≡ ends machine.now names.now
         (option_and_then (source_at machine.now names.now) (number_of_proposal machine.now))) }
 {
     let by = messages_in(alloc, machine, names, &Phase::Second)?;
-    match source_of_proposal(machine, names) {
-        Some(source) if is_only_proposal(machine, source.value) => {
-            Ok(Deed::Settles { source, by })
-        }
+    let source = number_of_proposal(machine).and_then(|number| source_at(machine, names, number));
+    match source {
+        Some(source) if machine.all_propose(source.value) => Ok(Deed::Settles { source, by }),
         Some(source) => Ok(Deed::Adopts { source, by }),
         None => Ok(Deed::Keeps {
             value: machine.estimate(),
@@ -374,7 +301,7 @@ fn local_deed(alloc: Global, machine: &Leader, names: &[MsgName]) -> Result<Deed
 fn learn_deed(machine: &Leader, names: &[MsgName]) -> Deed
     ensures { result ≡ learn_deed machine.now names.now }
 {
-    match source_of_learnt(machine, names) {
+    match number_of_learnt(machine).and_then(|number| source_at(machine, names, number)) {
         Some(source) => Deed::Learns(source),
         None => Deed::Nothing,
     }

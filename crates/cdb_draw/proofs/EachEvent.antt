@@ -1,20 +1,19 @@
 -- What is drawn of each event of a history.
-use Rattle.std.proofs.Common.{◌≡◌, ◌<◌, ◌+◌, ℕ, suc, List, [], ◌++◌, get_or, length, take, slice_get, Some, sym, ap, ◌∙◌, add-one}
+use Rattle.std.proofs.Common.{◌≡◌, ◌<◌, ◌+◌, ℕ, suc, List, [], ◌++◌, get_or, length, slice_get, Some, sym, ap, ◌∙◌, add-one}
 use Rattle.std.specs.Option.{option_map_or}
 use Rattle.std.specs.Prelude.{unwrap_or}
 use Rattle.std.proofs.lemmas.Option.{slice_get-get_or}
 use Rattle.cdb_base.specs.declared.event.Event.{Event}
+use Rattle.cdb_base.specs.declared.name.MsgName.{MsgName}
 use Rattle.cdb_causal.specs.StandingEvents.{IsStanding}
-use Rattle.cdb_deeds.specs.Deeds.{deed_in}
 use Rattle.cdb_deeds.specs.declared.deed.Deed.{Deed}
 use Rattle.cdb_explain.specs.Explanations.{deed_at, run_after}
+use Rattle.cdb_explain.specs.Replays.{IsPlayed}
 use Rattle.cdb_explain.specs.declared.line.Causes.TheVariants.{Shown}
-use Rattle.cdb_explain.proofs.Along.{deed_along, next_is_after, whole_of_last}
-use Rattle.cdb_rules.specs.Lawful.{KeepHistories}
+use Rattle.cdb_explain.proofs.Along.{has_come, whole_of_last}
 use Rattle.cdb_rules.specs.Rules.{Rules}
 use Rattle.cdb_rules.specs.RunView.{RunView}
-use Rattle.cdb_rules.specs.Runs.{with_event, with_history}
-use Rattle.cdb_setup.specs.Parts.{Parts, AreInRange}
+use Rattle.cdb_setup.specs.Parts.{Parts}
 use Rattle.cdb_draw.specs.Arrows.{arrow_at, event_arrow}
 use Rattle.cdb_draw.specs.EventMarks.{mark_at, mark_text, marked_text, written_text}
 use Rattle.cdb_draw.specs.Weights.{weight_at}
@@ -31,20 +30,16 @@ pub its_arrow : (grid : Grid) {events history : List Event} → events ≡ histo
 its_arrow grid {events} {history} same weights i event at within =
     rw (same, add-one i, ← weight_of weights i within) (ap (λ o. option_map_or (event_arrow grid history (weight_at weights (suc i)) (suc i)) o []) (sym at))
 
--- it is that of the last event of the run once it had come to it
-pub its_mark : (rules : Parts → Rules) (SameState : Parts → List Event → List Event → Type 0)
-    (kept : (setup : Parts) → AreInRange setup → KeepHistories (rules setup) (SameState setup) setup) (run : RunView) (i : ℕ) {event : Event}
-    → slice_get run.history i ≡ Some event → {again : RunView} → again ≡ with_history run (take i run.history) → IsStanding run.history
-    → {later : RunView} → later ≡ with_event again event → {did : Deed} → did ≡ deed_in again event
+-- it is that of the last event of the run that has come to it
+pub its_mark : (rules : Parts → Rules) {run again : RunView} (i : ℕ) {event : Event} {names : List (List MsgName)} {did : Deed}
+    → IsStanding run.history → slice_get run.history i ≡ Some event → IsPlayed run (i + 1) again names → did ≡ deed_at run (suc i)
     → (grid : Grid) (weights : List Weight) → i < length weights
-    → mark_text rules grid later did later (get_or weights i Pale) (i + 1) event ≡ mark_at rules grid run weights (i + 1)
-its_mark rules SameState kept run i {event} at {again} along standing {later} is {did = its} done grid weights within =
+    → mark_text rules grid again did again (get_or weights i Pale) (i + 1) event ≡ mark_at rules grid run weights (i + 1)
+its_mark rules {run} i {event = event} standing at played does grid weights within =
     let did = deed_at run (suc i) in
     let after = run_after run (suc i) in
     let weight = weight_at weights (suc i) in
-    let whole = whole_of_last rules SameState kept run i event at again along Shown did standing in
-    let came = next_is_after rules SameState kept run i event at again along later is in
-    let asked = done ∙ sym (deed_along rules SameState kept run i event at again along) in
-    rw (came, asked, add-one i, ← weight_of weights i within)
-    (ap (λ text. marked_text rules grid did after weight (suc i) event text ++ written_text rules grid after weight (suc i) event) (sym whole)
+    rw (has_come i played, does, add-one i, ← weight_of weights i within)
+    (ap (λ text. marked_text rules grid did after weight (suc i) event text ++ written_text rules grid after weight (suc i) event)
+    (whole_of_last rules run i standing at Shown did)
     ∙ ap (λ o. option_map_or (mark_text rules grid run did after weight (suc i)) o []) (sym at))

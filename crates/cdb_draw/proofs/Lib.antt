@@ -1,6 +1,5 @@
 pub mod SentMessages
-pub mod Parted
-pub mod Ended
+pub mod Pushed
 pub mod KeptPlaces
 pub mod EachEvent
 pub mod FramesFound

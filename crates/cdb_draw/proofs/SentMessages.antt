@@ -1,5 +1,5 @@
--- The tables of sends and of copies that were received or lost, when the history grows.
-use Rattle.std.proofs.Common.{◌≡◌, ℕ, suc, ◌+◌, ◌*◌, ◌^◌, ◌<◌, Bool, true, false, ◌&&◌, List, [], ◌∷◌, ◌++◌, length, get_or, take, Option}
+-- The table of places, when the history grows.
+use Rattle.std.proofs.Common.{◌≡◌, ℕ, suc, ◌+◌, ◌<◌, Bool, true, false, List, [], ◌∷◌, ◌++◌, length, get_or, take, Option}
 use Rattle.std.proofs.Common.{Some, None, Result, Ok, Err, OnOk, cond, nat_eq, option_map, refl, sym, ap, subst, ◌∙◌, arith}
 use Rattle.std.specs.HashMap.{HashMap, get}
 use Rattle.std.specs.List.{position_from}
@@ -8,15 +8,13 @@ use Rattle.std.proofs.lemmas.Bool.Decides.{nat_tests}
 use Rattle.std.proofs.lemmas.Iterator.Adapters.{position_from-zero}
 use Rattle.std.proofs.lemmas.List.{length-take-le}
 use Rattle.cdb_base.specs.declared.event.Event.{Event}
-use Rattle.cdb_base.specs.declared.event.Event.TheVariants.{Step, Lost}
-use Rattle.cdb_base.specs.declared.event.Kind.TheVariants.{Send}
-use Rattle.cdb_base.specs.declared.name.CopyName.{CopyName}
-use Rattle.cdb_base.specs.declared.name.MsgName.{MsgName}
 use Rattle.std.specs.Option.{option_map_or}
 use Rattle.cdb_rules.proofs.Beginnings.{one_more}
 use Rattle.cdb_rules.proofs.Flagged.{item_at}
-use Rattle.cdb_draw.specs.Positions.{is_send_of, same_copy}
-use Rattle.cdb_draw.specs.Sends.{copy_code, HasFirst, HasNoted, IsShort, IsShortCopy, kept_or_noted, message_code, message_of}
+use Rattle.cdb_draw.specs.Positions.{does, same_transit, transit_of}
+use Rattle.cdb_draw.specs.Sends.{ArePlaces, Fits, HasNoted, kept_or_noted, transit_code}
+use Rattle.cdb_draw.specs.declared.sends.Transit.{Transit}
+use Rattle.cdb_draw.specs.declared.sends.Transit.TheVariants.{Sent, Taken}
 
 -- ---- the first position at which a test holds
 
@@ -52,44 +50,33 @@ kept_false None n = refl
 
 -- ---- one event more
 
-module _ {K S : Type 0} (code : K → ℕ) (Fits : K → Type 0) (is_of : K → Event → Bool) (old : HashMap ℕ ℕ S) (event : Event) where
-  pub noted : {A E : Type 0} (result : Result A E) (new : HashMap ℕ ℕ S) (number position : ℕ)
-      → ((name : K) → Fits name → nat_eq number (code name) ≡ is_of name event)
-      → OnOk result ((q : ℕ) → get nat_eq new q ≡ kept_or_noted (get nat_eq old q) (nat_eq number q) position)
-      → OnOk result (HasNoted (HasFirst code Fits is_of) old new position event)
-  noted (Ok done) new number position same kept = λ before count so name fits.
-      kept (code name) ∙ rw (so name fits, same name fits, ← count) (sym (first_more (is_of name) before event))
-  noted (Err why) new number position same kept = tt
+-- names are told apart by their numbers
+coded : (one other : Transit) → Fits one → Fits other → nat_eq (transit_code one) (transit_code other) ≡ same_transit other one
+coded (Sent one) (Sent other) a b = grind (arith, nat_tests)
+coded (Taken one) (Taken other) (a, b, c) (d, e, f) = grind (arith, nat_tests)
+coded (Sent one) (Taken other) a (d, e, f) = grind (arith, nat_tests)
+coded (Taken one) (Sent other) (a, b, c) d = grind (arith, nat_tests)
 
-  pub not_noted : ((name : K) → is_of name event ≡ false) → (position : ℕ) → HasNoted (HasFirst code Fits is_of) old old position event
-  not_noted other position = λ before count so name fits.
-      so name fits ∙ sym (first_more (is_of name) before event ∙ rw (other name) (kept_false _ _))
+module _ {S : Type 0} (old : HashMap ℕ ℕ S) (event : Event) where
+  pub noted : {A E : Type 0} (result : Result A E) (new : HashMap ℕ ℕ S) (number position : ℕ) (one : Transit) → transit_of event ≡ Some one
+      → number ≡ transit_code one → Fits one
+      → OnOk result ((q : ℕ) → get nat_eq new q ≡ kept_or_noted (get nat_eq old q) (nat_eq number q) position)
+      → OnOk result (HasNoted old new position event)
+  noted (Ok done) new number position one is value fits kept = λ before count so transit its.
+      let same : nat_eq number (transit_code transit) ≡ does transit event =
+      rw value (coded one transit fits its) ∙ ap (λ o. option_map_or (same_transit transit) o false) (sym is) in
+      kept (transit_code transit) ∙ rw (so transit its, same, ← count) (sym (first_more (does transit) before event))
+  noted (Err why) new number position one is value fits kept = tt
+
+  pub not_noted : transit_of event ≡ None → (position : ℕ) → HasNoted old old position event
+  not_noted none position = λ before count so transit its.
+      let other : does transit event ≡ false = ap (λ o. option_map_or (same_transit transit) o false) none in
+      so transit its ∙ sym (first_more (does transit) before event ∙ rw other (kept_false _ _))
 
 -- of the events up to one, and then of that one
-pub noted_next : {T : Type 0} (IsOf : T → List Event → Type 0) (events : List Event) (i : ℕ) (event : Event) (old new : T)
-    → i < length events → event ≡ get_or events i event → IsOf old (take i events)
-    → HasNoted IsOf old new (i + 1) event → IsOf new (take (i + 1) events)
-noted_next IsOf events i event old new below is so notes =
+pub noted_next : {S : Type 0} (events : List Event) (i : ℕ) (event : Event) (old new : HashMap ℕ ℕ S)
+    → i < length events → event ≡ get_or events i event → ArePlaces old (take i events)
+    → HasNoted old new (i + 1) event → ArePlaces new (take (i + 1) events)
+noted_next events i event old new below is so notes =
     let count = length-take-le i events (omega arith) in
-    subst (IsOf new) (one_more events i event (item_at refl i event below is)) (notes (take i events) (omega (arith, count)) so)
-
--- ---- messages and copies by their numbers
-
-is_send : (name : MsgName) (event : Event)
-    → is_send_of name event ≡ option_map_or (λ one. nat_eq one.s name.s && nat_eq one.m name.m) (message_of event) false
-is_send name (Step p k (Send m)) = refl
-is_send name event = refl
-
-same_code : (one name : MsgName) → IsShort one → IsShort name
-    → nat_eq (message_code one) (message_code name) ≡ (nat_eq one.s name.s && nat_eq one.m name.m)
-same_code one name a b = grind (arith, nat_tests)
-
-pub send_coded : (event : Event) (one name : MsgName) → message_of event ≡ Some one → IsShort one → IsShort name
-    → nat_eq (message_code one) (message_code name) ≡ is_send_of name event
-send_coded event one name is a b = same_code one name a b ∙ sym (rw is at (is_send name event))
-
-pub no_send : (event : Event) → message_of event ≡ None → (name : MsgName) → is_send_of name event ≡ false
-no_send event none name = rw none at (is_send name event)
-
-pub copy_coded : (one copy : CopyName) → IsShortCopy one → IsShortCopy copy → nat_eq (copy_code one) (copy_code copy) ≡ same_copy copy one
-copy_coded one copy (a, b) (c, d) = grind (arith, nat_tests)
+    subst (ArePlaces new) (one_more events i event (item_at refl i event below is)) (notes (take i events) (omega (arith, count)) so)

@@ -13,11 +13,12 @@ use Rattle.cdb_base.specs.declared.register.Reg.{Reg}
 use Rattle.cdb_base.specs.declared.register.Reg.TheVariants.{R, Dec}
 use Rattle.cdb_message.specs.Mail.{message_name}
 use Rattle.cdb_draw.specs.Layout.{lane_y, register_y, row_of, spot, x_of}
-use Rattle.cdb_draw.specs.Positions.{sent_at, taken_at}
+use Rattle.cdb_draw.specs.Positions.{passed_at}
 use Rattle.cdb_draw.specs.Weights.{weight_at, weight_text}
 use Rattle.cdb_draw.specs.Ways.{point_text, way_of, way_parts}
 use Rattle.cdb_draw.specs.declared.layout.Grid.{Grid}
 use Rattle.cdb_draw.specs.declared.layout.Point.{Point}
+use Rattle.cdb_draw.specs.declared.sends.Transit.TheVariants.{Sent, Taken}
 use Rattle.cdb_draw.specs.declared.weight.Weight.{Weight}
 
 -- an arrow of that class, along these strokes
@@ -30,7 +31,7 @@ arrow_text class weight way =
 -- that of a copy, from the position where its message was sent to position j on the lane of process p
 abbrev pub copy_arrow : Grid → List Event → List ℕ → Weight → MsgName → ℕ → ℕ → List ℕ
 copy_arrow grid history class weight name j p =
-    option_map_or (λ i. arrow_text class weight (way_of grid i name.s j p)) (sent_at history name) []
+    option_map_or (λ i. arrow_text class weight (way_of grid i name.s j p)) (passed_at history (Sent name)) []
 
 -- straight down or up at that x
 abbrev pub upright : ℕ → ℕ → ℕ → List (List Point)
@@ -63,7 +64,7 @@ write_way grid position p register =
 -- its copy for that process was neither received nor lost
 abbrev pub waits : Grid → List Event → MsgName → ℕ → Bool
 waits grid history name to =
-    nat_le to grid.processes && is_none (taken_at history (record { msg = name; to = to }))
+    nat_le to grid.processes && is_none (passed_at history (Taken (record { msg = name; to = to })))
 
 abbrev pub some_wait : Grid → List Event → MsgName → Bool
 some_wait grid history name =

@@ -35,30 +35,22 @@ use Rattle.cdb_draw.specs.Weights.{weight_at, weight_text}
 use Rattle.cdb_draw.specs.declared.layout.Grid.{Grid}
 use Rattle.cdb_draw.specs.declared.weight.Weight.{Weight}
 
--- what a step does, in a word: the name of the shape of its mark too
-abbrev pub kind_word : Kind → List ℕ
-kind_word (Query leader) = codes "query"
-kind_word (Send m) = codes "send"
-kind_word (Recv s m) = codes "recv"
-kind_word (Read register) = codes "read"
-kind_word (Write register) = codes "write"
-kind_word Local = codes "local"
-kind_word Learn = codes "learn"
-kind_word Crash = codes "crash"
-
--- with what: the message or the register
-abbrev pub kind_with : ℕ → Kind → List ℕ
-kind_with p (Send m) = message_text p m
-kind_with p (Recv s m) = message_text s m
-kind_with p (Read register) = register_text register
-kind_with p (Write register) = register_text register
-kind_with p kind = []
+-- what a step does, in a word, which names the shape of its mark too, and with what: the message or the register
+abbrev pub kind_texts : ℕ → Kind → List ℕ × List ℕ
+kind_texts p (Query leader) = (codes "query", [])
+kind_texts p (Send m) = (codes "send", message_text p m)
+kind_texts p (Recv s m) = (codes "recv", message_text s m)
+kind_texts p (Read register) = (codes "read", register_text register)
+kind_texts p (Write register) = (codes "write", register_text register)
+kind_texts p Local = (codes "local", [])
+kind_texts p Learn = (codes "learn", [])
+kind_texts p Crash = (codes "crash", [])
 
 -- the shape of a mark, and the three rows above it: a step by its name and by what it does with what, a lost copy by
 -- its name
 
 abbrev pub shape_of : Event → List ℕ
-shape_of (Step p k kind) = kind_word kind
+shape_of (Step p k kind) = (kind_texts p kind).0
 shape_of (Lost copy) = codes "lost"
 
 abbrev pub first_row : Event → List ℕ
@@ -66,11 +58,11 @@ first_row (Step p k kind) = step_text p k
 first_row (Lost copy) = codes "lost"
 
 abbrev pub second_row : Event → List ℕ
-second_row (Step p k kind) = kind_word kind
+second_row (Step p k kind) = (kind_texts p kind).0
 second_row (Lost copy) = message_text (copy.msg).s (copy.msg).m
 
 abbrev pub third_row : Event → List ℕ
-third_row (Step p k kind) = kind_with p kind
+third_row (Step p k kind) = (kind_texts p kind).1
 third_row (Lost copy) = codes "to " ++ decimal copy.to
 
 -- ---- below it

@@ -9,16 +9,14 @@ use Rattle.cdb_commands.specs.ReplyView.{ReplyView, Stepped, Undone, Redone, Rol
 use Rattle.cdb_commands.specs.declared.command.Command.{Command}
 use Rattle.cdb_control.specs.Journal.{reply_in}
 use Rattle.cdb_control.specs.OneSeat.{carried_out}
-use Rattle.cdb_explain.specs.RunLeft.{run_of}
-use Rattle.cdb_explain.specs.StepFaults.{IsFaultOfLeft}
+use Rattle.cdb_explain.specs.RunLeft.{IsFaultOfRun, run_of}
 use Rattle.cdb_explain.specs.declared.fault.AnswerFault.{AnswerFault}
 use Rattle.cdb_explain.specs.declared.fault.AnswerFault.TheVariants.{Play, TooManyEvents}
 use Rattle.cdb_rules.specs.RunView.{RunView}
 use Rattle.cdb_rules.specs.Rules.{Rules}
 use Rattle.cdb_setup.specs.Format.{Encodes}
 use Rattle.cdb_setup.specs.Parts.{Parts}
-use Rattle.cdb_streams.specs.Scripts.{GivesCommands}
-use Rattle.cdb_streams.specs.Streams.{Stream}
+use Rattle.cdb_streams.specs.Scripts.{IsScript}
 use Rattle.cdb_streams.specs.declared.fault.PlayFault.TheVariants as play
 use Rattle.cdb_draw.specs.Drawn.{IsCrowded}
 use Rattle.cdb_draw.specs.Layout.{grid_of}
@@ -93,16 +91,16 @@ module _ (rules : Parts → Rules) (setup : Parts) (commands : List Command) whe
   IsFaultOfFinding (Play (play.NoMemory refused)) = Unit {0}
   IsFaultOfFinding fault = ⊥
 
--- a reader was read to its end, and the pictures are the frames of the script that it gave, on the setup that a text of
--- JSON encodes
-abbrev pub GivesFrames : (Parts → Rules) → List ℕ → ℕ → Stream → Stream → List (List ℕ) → Type 0
-GivesFrames rules json columns old new pictures =
-    (setup : Parts) × Encodes json setup × (commands : List Command) × GivesCommands old new commands
+-- the pictures are the frames of the script, on the setup that a text of JSON encodes
+abbrev pub AreFramesOf : (Parts → Rules) → List ℕ → List ℕ → ℕ → List (List ℕ) → Type 0
+AreFramesOf rules json script columns pictures =
+    (setup : Parts) × Encodes json setup × (commands : List Command) × IsScript commands script
     × (pictures ≡ frame_texts rules setup commands columns)
 
--- the run is crowded after some of the commands; else as a fault of a play
-abbrev pub IsFaultOfFrames : (Parts → Rules) → List ℕ → Stream → Stream → AnswerFault → Type 0
-IsFaultOfFrames rules json old new TooManyEvents =
-    (setup : Parts) × Encodes json setup × (commands : List Command) × GivesCommands old new commands
+-- the run is crowded after some of the commands; else as where a script leaves no run
+abbrev pub IsFaultOfFrames : (Parts → Rules) → List ℕ → List ℕ → AnswerFault → Type 0
+IsFaultOfFrames rules json script TooManyEvents =
+    (setup : Parts) × Encodes json setup × (commands : List Command) × IsScript commands script
     × GetsCrowded rules setup commands
-IsFaultOfFrames rules json old new fault = IsFaultOfLeft rules json old new (λ run. ⊥) (λ run. ⊥) fault
+IsFaultOfFrames rules json script (Play fault) = IsFaultOfRun json script fault
+IsFaultOfFrames rules json script fault = ⊥

@@ -2,37 +2,34 @@
 use Rattle.std.specs.Prelude.{ℕ, suc, Bool, false, ◌&&◌, List, Option, None, Some, option_map, nat_eq, position}
 use Rattle.cdb_base.specs.declared.event.Event.{Event}
 use Rattle.cdb_base.specs.declared.event.Event.TheVariants.{Step, Lost}
-use Rattle.cdb_base.specs.declared.event.Kind.TheVariants.{Recv, Crash}
-use Rattle.cdb_base.specs.declared.name.CopyName.{CopyName}
+use Rattle.cdb_base.specs.declared.event.Kind.TheVariants.{Send, Recv, Crash}
 use Rattle.cdb_base.specs.declared.name.MsgName.{MsgName}
-use Rattle.cdb_causal.specs.Dependence.{sends}
+use Rattle.cdb_draw.specs.declared.sends.Transit.{Transit}
+use Rattle.cdb_draw.specs.declared.sends.Transit.TheVariants.{Sent, Taken}
 use Rattle.cdb_message.specs.Mail.{message_name}
 use Rattle.std.specs.Option.{option_map_or}
 
--- the event sends that message
-abbrev pub is_send_of : MsgName → Event → Bool
-is_send_of name (Step p k kind) = sends name.s name.m p kind
-is_send_of name (Lost copy) = false
+-- what an event does with a message: it sends it, or it receives or loses a copy
+abbrev pub transit_of : Event → Option Transit
+transit_of (Step p k (Send m)) = Some (Sent (message_name p m))
+transit_of (Step p k (Recv s m)) = Some (Taken (record { msg = message_name s m; to = p }))
+transit_of (Lost copy) = Some (Taken copy)
+transit_of event = None
 
--- where the message was sent
-abbrev pub sent_at : List Event → MsgName → Option ℕ
-sent_at history name = option_map suc (position (is_send_of name) history)
+abbrev pub same_message : MsgName → MsgName → Bool
+same_message one other = nat_eq one.s other.s && nat_eq one.m other.m
 
--- the copy that an event receives or loses
-abbrev pub copy_of : Event → Option CopyName
-copy_of (Step p k (Recv s m)) = Some (record { msg = message_name s m; to = p })
-copy_of (Lost copy) = Some copy
-copy_of event = None
+abbrev pub same_transit : Transit → Transit → Bool
+same_transit (Sent one) (Sent other) = same_message one other
+same_transit (Taken one) (Taken other) = nat_eq one.to other.to && same_message one.msg other.msg
+same_transit one other = false
 
-abbrev pub same_copy : CopyName → CopyName → Bool
-same_copy one other = nat_eq one.to other.to && (nat_eq one.msg.s other.msg.s && nat_eq one.msg.m other.msg.m)
+abbrev pub does : Transit → Event → Bool
+does transit event = option_map_or (same_transit transit) (transit_of event) false
 
-abbrev pub takes : CopyName → Event → Bool
-takes copy event = option_map_or (same_copy copy) (copy_of event) false
-
--- where that copy was received or lost
-abbrev pub taken_at : List Event → CopyName → Option ℕ
-taken_at history copy = option_map suc (position (takes copy) history)
+-- where that was first done
+abbrev pub passed_at : List Event → Transit → Option ℕ
+passed_at history transit = option_map suc (position (does transit) history)
 
 -- the event is a crash of process p
 abbrev pub is_crash_of : ℕ → Event → Bool

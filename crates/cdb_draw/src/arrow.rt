@@ -5,20 +5,20 @@ ghost use Rattle.cdb_draw.specs.Arrows.{arrow_at, arrow_text, copy_arrow, event_
 ghost use Rattle.cdb_draw.specs.Arrows.{register_lane, register_spot, upright};
 ghost use Rattle.cdb_draw.specs.Layout.{end_x, IsGrid, IsOnPage};
 ghost use Rattle.cdb_draw.specs.Pieces.{pieces_text};
-ghost use Rattle.cdb_draw.specs.Sends.{AreSendsOf, AreTakesOf};
+ghost use Rattle.cdb_draw.specs.Sends.{ArePlaces};
 ghost use Rattle.cdb_draw.specs.Ways.{broken_way, whole_way};
-ghost use Rattle.cdb_streams.specs.PiecesPut.{Puts};
+ghost use Rattle.cdb_text.specs.Pushes.{Pushes};
 
 use crate::layout::{Grid, Point, end_x, lane_y, register_y, row_of, spot, x_of};
 use crate::piece::Piece::{At, Text};
-use crate::piece::{Piece, put_each};
-use crate::sends::{Sends, Takes, position_of_send};
-use crate::waits::put_on_way;
+use crate::piece::{Piece, push_each};
+use crate::sends::{Places, Transit, place_of};
+use crate::waits::push_on_way;
 use crate::way::{Side, coming, leaving, passing, side_of};
 use crate::weight::Weight;
 use cdb_base::limits::MAX_ENTRIES;
 use cdb_base::{Event, Kind, MsgName, Proc, Reg};
-use cdb_streams::{Buffer, OutputFault, Sink};
+use std::alloc::AllocError;
 
 /// The arrow of a copy in one row.
 #[tactic(auto, unfolding(crate::specs::Arrows::arrow_text))]
@@ -108,39 +108,41 @@ fn upright_arrow(
     ]
 }
 
-/// Puts the arrow of a copy to an event at a position, from where its message was sent.
-fn put_copy<W: Sink>(
+/// Adds the arrow of a copy to an event at a position, from where its message was sent.
+fn push_copy(
+    text: &mut String,
     grid: Grid,
     events: &[Event],
-    sends: &Sends,
+    places: &Places,
     class: &'static str,
     weight: Weight,
     name: MsgName,
     position: usize,
     p: Proc,
-    buffer: &mut Buffer,
-    out: &mut W,
-) -> Result<(), OutputFault>
+) -> Result<(), AllocError>
     requires grid { IsGrid grid }
     requires few { length events.now ≤ MAX_ENTRIES }
     requires position { position ≤ MAX_ENTRIES }
-    requires sends { AreSendsOf sends.now events.now }
-    ensures { Puts W.stream result out.old buffer.old out.new buffer.new
+    requires places { ArePlaces places.now events.now }
+    ensures { Pushes result text.old text.new
         (copy_arrow grid events.now class.now weight name position p) }
 {
     let s = name.s;
-    let Some(i) = position_of_send(sends, name) else {
-        return put_each(&[], buffer, out);
+    let Some(i) = place_of(places, Transit::Sent(name)) else {
+        return Ok(());
     };
     let (from, to) = (spot(grid, i, s), spot(grid, position, p));
     let side = side_of(s, p);
     let row = row_of(grid, position);
     if row_of(grid, i) == row {
-        put_each(&whole_arrow(class, weight, side, from, to), buffer, out)
+        push_each(text, &whole_arrow(class, weight, side, from, to))
     } else {
         let lane = lane_y(grid, row, s);
-        let pieces = broken_arrow(class, weight, side, end_x(grid), from, lane, to);
-        put_each(&pieces, buffer, out)
+        let edge = end_x(grid);
+        push_each(
+            text,
+            &broken_arrow(class, weight, side, edge, from, lane, to),
+        )
     }
 }
 
@@ -169,56 +171,49 @@ pub(crate) fn register_spot(grid: Grid, position: usize, register: Reg) -> Point
     }
 }
 
-/// Puts the arrow of the event at a position, from 1, where it has one.
-pub(crate) fn put_arrow<W: Sink>(
+/// Adds the arrow of the event at a position, from 1, where it has one.
+pub(crate) fn push_arrow(
+    text: &mut String,
     grid: Grid,
     events: &[Event],
-    sends: &Sends,
-    takes: &Takes,
+    places: &Places,
     weight: Weight,
     position: usize,
     event: &Event,
-    buffer: &mut Buffer,
-    out: &mut W,
-) -> Result<(), OutputFault>
+) -> Result<(), AllocError>
     requires grid { IsGrid grid }
     requires few { length events.now ≤ MAX_ENTRIES }
     requires position { position ≤ MAX_ENTRIES }
-    requires sends { AreSendsOf sends.now events.now }
-    requires takes { AreTakesOf takes.now events.now }
-    ensures { Puts W.stream result out.old buffer.old out.new buffer.new
-        (event_arrow grid events.now weight position event.now) }
+    requires places { ArePlaces places.now events.now }
+    ensures { Pushes result text.old text.new (event_arrow grid events.now weight position event.now) }
 {
     let row = row_of(grid, position);
     match *event {
         Event::Step { p, kind, .. } => match kind {
             Kind::Recv(s, m) => {
                 let name = MsgName { s, m };
-                put_copy(
-                    grid, events, sends, "copy", weight, name, position, p, buffer, out,
+                push_copy(
+                    text, grid, events, places, "copy", weight, name, position, p,
                 )
             }
             Kind::Read(register) => {
                 let from = register_spot(grid, position, register);
                 let pieces = upright_arrow("read", weight, from.x, from.y, lane_y(grid, row, p));
-                put_each(&pieces, buffer, out)
+                push_each(text, &pieces)
             }
             Kind::Write(register) => {
                 let to = register_spot(grid, position, register);
                 let pieces = upright_arrow("write", weight, to.x, lane_y(grid, row, p), to.y);
-                put_each(&pieces, buffer, out)
+                push_each(text, &pieces)
             }
             Kind::Send(m) => {
                 let name = MsgName { s: p, m };
-                put_on_way(grid, events, takes, weight, position, &name, buffer, out)
+                push_on_way(text, grid, events, places, weight, position, &name)
             }
-            Kind::Query(_) | Kind::Local | Kind::Learn | Kind::Crash => put_each(&[], buffer, out),
+            Kind::Query(_) | Kind::Local | Kind::Learn | Kind::Crash => Ok(()),
         },
-        Event::Lost(copy) => {
-            let (name, to) = (copy.msg, copy.to);
-            put_copy(
-                grid, events, sends, "lost", weight, name, position, to, buffer, out,
-            )
-        }
+        Event::Lost(copy) => push_copy(
+            text, grid, events, places, "lost", weight, copy.msg, position, copy.to,
+        ),
     }
 }

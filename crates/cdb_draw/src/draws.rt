@@ -5,19 +5,16 @@ ghost use Rattle.cdb_agreement.specs.Algorithms.{rules};
 ghost use Rattle.cdb_draw.specs.Picture.{IsPicture};
 ghost use Rattle.cdb_draw.specs.Weights.{trail_flags, weigh_each, AreWeighed};
 ghost use Rattle.cdb_rules.specs.ByRules.{IsInOrder};
-ghost use Rattle.cdb_streams.specs.Endings.{pieces_ending};
-ghost use Rattle.cdb_streams.specs.Written.{IsWritten};
 ghost use Rattle.cdb_trail.specs.Trailed.{IsTrailIn};
 ghost use Rattle.cdb_trail.specs.declared.trail.Trail.{Trail};
 
 use crate::layout::grid_of;
-use crate::picture::write_picture;
+use crate::picture::weighed_picture;
 use crate::weight::Weight;
 use cdb_any_run::AnyRun;
 use cdb_base::NoMemory;
 use cdb_base::limits::MAX_ENTRIES;
 use cdb_rules::Trace;
-use cdb_streams::{OutputFault, Sink};
 use cdb_trail::trail_of;
 use std::alloc::Global;
 
@@ -64,11 +61,7 @@ fn weights_to(alloc: Global, run: &Trace, position: usize) -> Result<Vec<Weight>
 }
 
 /// The weight of each event: all are in full where no step is asked for.
-pub(crate) fn weights_for(
-    alloc: Global,
-    run: &Trace,
-    position: Option<usize>,
-) -> Result<Vec<Weight>, NoMemory>
+fn weights_for(alloc: Global, run: &Trace, position: Option<usize>) -> Result<Vec<Weight>, NoMemory>
     requires valid { IsInOrder rules run.now }
     requires stands { IfSome position (λ at. (1 ≤ at) × (at ≤ length run.now.history)) }
     ensures weights { IfOk result (λ weights. AreWeighed run.now position weights.items) }
@@ -80,12 +73,9 @@ pub(crate) fn weights_for(
     }
 }
 
-/// Writes the picture of a run of at most 999,999 events, with `columns` columns to a row; with 0 all are in one row.
+/// The picture of a run of at most 999,999 events, as SVG, with `columns` columns to a row; with 0 all are in one row.
 /// With a position of its history, from 1, the trail to the event there is drawn bold, what else has led to it in full,
-/// and the rest pale; without one everything is in full.
-///
-/// After `Write` what was written is a beginning of the picture, and after `NoMemory` nothing, or one of whole
-/// pieces of 65,536 bytes.
+/// and the rest pale; without one everything is in full. Only out of memory is an error.
 ///
 /// Promise: A picture has one mark for each standing event, on its lane and in the order of the history, with its name,
 /// its whole text, the value that it carries, the round that it begins or what it did; what each write leaves in its
@@ -93,20 +83,18 @@ pub(crate) fn weights_for(
 /// each receive and each lost copy, from the first event that sends its message; one from or to the register of each
 /// read and write; a lane that ends at its crash; and exactly the trail to the event that is asked for is bold, exactly
 /// what else has led to it in full.
-pub fn draw_run<W: Sink>(
+pub fn picture_of(
     alloc: Global,
     run: &Trace,
     columns: u32,
     position: Option<usize>,
-    out: &mut W,
-) -> Result<(), OutputFault>
+) -> Result<Vec<u8>, NoMemory>
     requires valid { IsInOrder rules run.now }
     requires few { length run.now.history ≤ MAX_ENTRIES }
     requires stands { IfSome position (λ at. (1 ≤ at) × (at ≤ length run.now.history)) }
-    ensures { IsWritten W.stream (pieces_ending result) out.old out.new
-        (IsPicture rules run.now columns position) }
+    ensures { IfOk result (λ text. IsPicture rules run.now columns position text.items) }
 {
     let weights = weights_for(alloc, run, position)?;
     let grid = grid_of(run.setup(), columns as usize, run.events().len());
-    write_picture::<AnyRun, W>(alloc, grid, run, weights.as_slice(), out)
+    weighed_picture::<AnyRun>(alloc, grid, run, weights.as_slice())
 }

@@ -1,35 +1,27 @@
 //! The frames of a script: the picture of the run after each of its commands that changed it, for slides.
 
 ghost use Rattle.std.specs.Prelude.{◌≡◌, ◌+◌, ◌<◌, ◌≤◌, [], ◌∷◌, ◌++◌, Some, length, slice_get};
-ghost use Rattle.std.specs.Prelude.{take, Err, IfErr, IfOk, OnOk};
+ghost use Rattle.std.specs.Prelude.{take, IfErr, IfOk, OnOk};
 ghost use Rattle.std.specs.List.{All};
 ghost use Rattle.cdb_agreement.specs.Algorithms.{rules};
 ghost use Rattle.cdb_commands.specs.ReplyView.{reply_view};
 ghost use Rattle.cdb_control.specs.Journal.{extended, reply_in};
 ghost use Rattle.cdb_control.specs.OneSeat.{carried_out, HasCarriedOut};
-ghost use Rattle.cdb_draw.specs.Frames.{frame_at, frame_weights, frames_of, GivesFrames, IsFaultOfFrames};
+ghost use Rattle.cdb_draw.specs.Frames.{AreFramesOf, frame_at, frame_weights, frames_of, IsFaultOfFrames};
 ghost use Rattle.cdb_draw.specs.Frames.{IsFaultOfFinding, IsFrameOf, room_of, took_by};
 ghost use Rattle.cdb_explain.specs.RunLeft.{run_of};
-ghost use Rattle.cdb_explain.specs.declared.fault.AnswerFault.TheVariants.{Play as of_play};
 ghost use Rattle.cdb_rules.specs.ByRules.{IsInOrder};
-ghost use Rattle.cdb_setup.specs.Format.{Encodes};
-ghost use Rattle.cdb_setup.specs.declared.fault.SetupFault.{SetupFault as SetupFaultName};
-ghost use Rattle.cdb_streams.specs.Faults.{IsFaultOfPlay};
-ghost use Rattle.cdb_streams.specs.Scripts.{GivesCommands};
-ghost use Rattle.cdb_streams.specs.Streams.{FailsWhere};
-ghost use Rattle.cdb_streams.specs.declared.fault.PlayFault.TheVariants as play;
 
 use crate::layout::{MOST_DRAWN, grid_of};
-use crate::memory::held_picture;
+use crate::picture::weighed_picture;
 use crate::weight::Weight;
 use cdb_any_run::AnyRun;
 use cdb_base::NoMemory;
 use cdb_base::limits::MAX_ENTRIES;
 use cdb_control::{CallFault, Command, Control, Reply, open_for};
-use cdb_explain::{AnswerFault, control_after};
+use cdb_explain::{AnswerFault, control_after, read_both};
 use cdb_rules::{Runs, Trace};
 use cdb_setup::Setup;
-use cdb_streams::{PlayFault, Source, read_commands};
 use std::alloc::Global;
 use std::marker::Model;
 
@@ -194,27 +186,6 @@ fn standing_after(alloc: Global, setup: &Setup, commands: &[Command]) -> Result<
     Trace::new(alloc, setup, history)
 }
 
-/// A setup and the commands of a script.
-fn read_both<R: Source>(
-    alloc: Global,
-    setup: &[u8],
-    script: &mut R,
-) -> Result<(Setup, Vec<Command>), PlayFault>
-    ensures setup { IfOk result (λ both. Encodes setup.now both.0) }
-    ensures commands { IfOk result
-        (λ both. GivesCommands (R.stream script.old) (R.stream script.new) both.1.items) }
-    ensures few { IfOk result (λ both. length both.1.items ≤ MAX_ENTRIES) }
-    ensures fault { IfErr result
-        (IsFaultOfPlay setup.now (R.stream script.old) (R.stream script.new)) }
-    ensures unread { (fault : SetupFaultName) → result ≡ Err (PlayFault.Setup fault) →
-        script.new ≡ script.old }
-    ensures read { FailsWhere R.stream (result ≡ Err PlayFault.Read) script.old script.new }
-{
-    let setup = Setup::read(alloc, setup)?;
-    let commands = read_commands(alloc, script)?;
-    Ok((setup, commands))
-}
-
 /// The frames of a script: one for each command that changed the run, all on a canvas with room for the run of most
 /// events. A contract sees the pictures, in the order of the commands.
 #[derive(Drop)]
@@ -245,26 +216,19 @@ impl Model for Frames {
 impl Frames {
     /// Reads a setup and then a script, and carries its commands out, without their replies. The pictures have
     /// `columns` columns to a row; with 0 all events are in one row. `TooManyEvents` where more than 5,000 events stand
-    /// after a command that changed the run; the other faults are those of a play, without `Write`. After `Setup` the
-    /// script is not read, and `Read` comes only where the reader failed in this call.
+    /// after a command that changed the run; the other faults are those of a play, without `Read` and `Write`.
     ///
     /// Promise: The frames of a script are the pictures of the run after each of its commands that took an event or
     /// took some out, in order: what stands then and nothing else, with the event that the command took in bold, on a
     /// canvas that has room for each.
-    pub fn read<R: Source>(
+    pub fn read(
         alloc: Global,
         setup: &[u8],
-        script: &mut R,
+        script: &[u8],
         columns: u32,
     ) -> Result<Self, AnswerFault>
-        ensures frames { IfOk result
-            (GivesFrames rules setup.now columns (R.stream script.old) (R.stream script.new)) }
-        ensures fault { IfErr result
-            (IsFaultOfFrames rules setup.now (R.stream script.old) (R.stream script.new)) }
-        ensures unread { (fault : SetupFaultName) →
-            result ≡ Err (of_play (play.Setup fault)) → script.new ≡ script.old }
-        ensures read { FailsWhere R.stream (result ≡ Err (of_play play.Read))
-            script.old script.new }
+        ensures frames { IfOk result (AreFramesOf rules setup.now script.now columns) }
+        ensures fault { IfErr result (IsFaultOfFrames rules setup.now script.now) }
     {
         let (setup, commands) = read_both(alloc, setup, script)?;
         let frames = find_frames(alloc, &setup, commands.as_slice())?;
@@ -294,6 +258,6 @@ impl Frames {
         let run = standing_after(alloc, &self.setup, &self.commands[..frame.commands])?;
         let grid = grid_of(&self.setup, self.columns as usize, self.room);
         let weights = weights_of(alloc, frame.took, run.events().len())?;
-        held_picture(alloc, grid, &run, weights.as_slice())
+        weighed_picture::<AnyRun>(alloc, grid, &run, weights.as_slice())
     }
 }

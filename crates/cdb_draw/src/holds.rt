@@ -5,18 +5,18 @@ ghost use Rattle.cdb_draw.specs.EventMarks.{held_text, holding_text, written_tex
 ghost use Rattle.cdb_draw.specs.Layout.{IsGrid};
 ghost use Rattle.cdb_draw.specs.Pieces.{piece_text, pieces_text};
 ghost use Rattle.cdb_rules.specs.ByRules.{cell_in};
-ghost use Rattle.cdb_streams.specs.PiecesPut.{Puts};
+ghost use Rattle.cdb_text.specs.Pushes.{Pushes};
 
 use crate::arrow::register_spot;
 use crate::layout::Grid;
 use crate::mark::value;
 use crate::piece::Piece::{Between, Text};
-use crate::piece::{Piece, put_each};
+use crate::piece::{Piece, push_each};
 use crate::weight::Weight;
 use cdb_base::limits::MAX_ENTRIES;
 use cdb_base::{Event, Kind, Reg};
 use cdb_rules::Runs;
-use cdb_streams::{Buffer, OutputFault, Sink};
+use std::alloc::AllocError;
 
 /// The value that a register of a run holds, where the run has it.
 fn held<T: Runs>(run: &T, register: Reg) -> Piece<'static>
@@ -54,31 +54,29 @@ fn holding(
     ]
 }
 
-/// Puts what the last event of a run, which stands at a position, from 1, left in a register, where it is a write.
-pub(crate) fn put_written<T: Runs, W: Sink>(
+/// Adds what the last event of a run, which stands at a position, from 1, left in a register, where it is a write.
+pub(crate) fn push_written<T: Runs>(
+    text: &mut String,
     grid: Grid,
     run: &T,
     weight: Weight,
     position: usize,
     event: &Event,
-    buffer: &mut Buffer,
-    out: &mut W,
-) -> Result<(), OutputFault>
+) -> Result<(), AllocError>
     requires grid { IsGrid grid }
     requires position { position ≤ MAX_ENTRIES }
-    ensures { Puts W.stream result out.old buffer.old out.new buffer.new
+    ensures { Pushes result text.old text.new
         (written_text T.rules grid (T.run run.now) weight position event.now) }
 {
     match *event {
-        Event::Step { kind, .. } => match kind {
-            Kind::Write(register) => {
-                let again = register;
-                let value = held(run, again);
-                let pieces = holding(grid, weight, position, register, value);
-                put_each(&pieces, buffer, out)
-            }
-            _ => put_each(&[], buffer, out),
-        },
-        Event::Lost(_) => put_each(&[], buffer, out),
+        Event::Step {
+            kind: Kind::Write(register),
+            ..
+        } => {
+            let again = register;
+            let value = held(run, again);
+            push_each(text, &holding(grid, weight, position, register, value))
+        }
+        _ => Ok(()),
     }
 }

@@ -5,17 +5,17 @@ ghost use Rattle.cdb_draw.specs.Lanes.{end_after, lane_at, lane_end, lane_of_row
 ghost use Rattle.cdb_draw.specs.Lanes.{process_lane, register_lane_text, register_name};
 ghost use Rattle.cdb_draw.specs.Layout.{grid_of, IsGrid};
 ghost use Rattle.cdb_draw.specs.Pieces.{piece_text, pieces_text};
-ghost use Rattle.cdb_streams.specs.PiecesPut.{Puts};
+ghost use Rattle.cdb_text.specs.Pushes.{Pushes};
 
 use crate::layout::{Grid, end_x, lane_y, register_y, row_of, x_of};
 use crate::piece::Piece::{After, Number, Text};
-use crate::piece::{Piece, put_each};
+use crate::piece::{Piece, push_each};
 use crate::sends::crashed_at;
 use cdb_base::limits::MAX_ENTRIES;
 use cdb_base::{Event, Proc};
 use cdb_rules::Trace;
 use cdb_setup::Algorithm;
-use cdb_streams::{Buffer, OutputFault, Sink};
+use std::alloc::AllocError;
 
 /// A lane of that class, so far down.
 #[tactic(auto, unfolding(crate::specs::Lanes::lane_text))]
@@ -145,26 +145,16 @@ fn lanes_by(algorithm: Algorithm, processes: usize) -> usize
     }
 }
 
-/// Puts the lanes of all rows.
-pub(crate) fn put_lanes<W: Sink>(
-    grid: Grid,
-    run: &Trace,
-    buffer: &mut Buffer,
-    out: &mut W,
-) -> Result<(), OutputFault>
+/// Adds the lanes of all rows.
+pub(crate) fn push_lanes(text: &mut String, grid: Grid, run: &Trace) -> Result<(), AllocError>
     requires grid { IsGrid grid }
     requires processes { grid.processes ≡ run.now.setup.processes }
     requires few { length run.now.history ≤ MAX_ENTRIES }
-    ensures { Puts W.stream result out.old buffer.old out.new buffer.new
-        (lanes_text grid run.now) }
+    ensures { Pushes result text.old text.new (lanes_text grid run.now) }
 {
     let lanes = lanes_by(run.setup().algorithm(), grid.processes);
     for i in 0..grid.rows * lanes {
-        put_each(
-            &lane_of_row(grid, run, i / lanes, i % lanes + 1),
-            buffer,
-            out,
-        )?;
+        push_each(text, &lane_of_row(grid, run, i / lanes, i % lanes + 1))?;
     }
     Ok(())
 }

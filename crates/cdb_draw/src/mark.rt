@@ -2,8 +2,8 @@
 
 ghost use Rattle.std.specs.Prelude.{◌≡◌, ◌≤◌, [], option_copied, string_bytes};
 ghost use Rattle.cdb_draw.specs.EventMarks.{begun, below_place, below_text, carried_text, decided_text};
-ghost use Rattle.cdb_draw.specs.EventMarks.{deed_texts, first_row};
-ghost use Rattle.cdb_draw.specs.EventMarks.{kind_with, kind_word, lane_of, mark_text, marked_text, note_text};
+ghost use Rattle.cdb_draw.specs.EventMarks.{deed_texts, first_row, kind_texts};
+ghost use Rattle.cdb_draw.specs.EventMarks.{lane_of, mark_text, marked_text, note_text};
 ghost use Rattle.cdb_draw.specs.EventMarks.{second_row, shape_of, third_row, tick_text, value_of};
 ghost use Rattle.cdb_draw.specs.Layout.{IsGrid};
 ghost use Rattle.cdb_explain.specs.Explanations.{whole_text};
@@ -12,37 +12,20 @@ ghost use Rattle.cdb_draw.specs.Pieces.{piece_text, pieces_text};
 ghost use Rattle.cdb_base.specs.NameTexts.{message_text, register_text};
 ghost use Rattle.cdb_message.specs.Mail.{payload_of};
 ghost use Rattle.cdb_rules.specs.ByRules.{mail_in};
-ghost use Rattle.cdb_streams.specs.PiecesPut.{Puts};
+ghost use Rattle.cdb_text.specs.Pushes.{Pushes};
 ghost use Rattle.cdb_text.specs.Reports.{value_text};
 
-use crate::holds::put_written;
+use crate::holds::push_written;
 use crate::layout::{Grid, spot};
 use crate::piece::Piece::{After, Between, Number, Text};
-use crate::piece::{Piece, put_each};
+use crate::piece::{Piece, push_each};
 use crate::weight::Weight;
 use cdb_base::limits::MAX_ENTRIES;
 use cdb_base::{Event, Kind, MsgName, Payload, Proc, Reg, Val};
 use cdb_deeds::Deed;
 use cdb_explain::{Causes, decision_by, push_whole};
 use cdb_rules::Runs;
-use cdb_streams::{Buffer, OutputFault, Sink};
-use std::alloc::Global;
-
-/// What a step does, in a word.
-fn word_of(kind: Kind) -> &'static str
-    ensures { result.now ≡ kind_word kind }
-{
-    match kind {
-        Kind::Query(_) => "query",
-        Kind::Send(_) => "send",
-        Kind::Recv(..) => "recv",
-        Kind::Read(_) => "read",
-        Kind::Write(_) => "write",
-        Kind::Local => "local",
-        Kind::Learn => "learn",
-        Kind::Crash => "crash",
-    }
-}
+use std::alloc::{AllocError, Global};
 
 /// The name of a message.
 fn message(s: Proc, m: u16) -> Piece<'static>
@@ -61,58 +44,41 @@ fn register(register: Reg) -> Piece<'static>
     }
 }
 
-/// With what a step of process `p` does what it does.
-fn with_of(p: Proc, kind: Kind) -> Piece<'static>
-    ensures { piece_text result ≡ kind_with p kind }
+/// What a step of process `p` does, in a word, and with what.
+fn kind_texts(p: Proc, kind: Kind) -> (&'static str, Piece<'static>)
+    ensures word { result.0.now ≡ (kind_texts p kind).0 }
+    ensures what { piece_text result.1 ≡ (kind_texts p kind).1 }
 {
     match kind {
-        Kind::Send(m) => message(p, m),
-        Kind::Recv(s, m) => message(s, m),
-        Kind::Read(it) | Kind::Write(it) => register(it),
-        Kind::Query(_) | Kind::Local | Kind::Learn | Kind::Crash => Text(""),
+        Kind::Query(_) => ("query", Text("")),
+        Kind::Send(m) => ("send", message(p, m)),
+        Kind::Recv(s, m) => ("recv", message(s, m)),
+        Kind::Read(it) => ("read", register(it)),
+        Kind::Write(it) => ("write", register(it)),
+        Kind::Local => ("local", Text("")),
+        Kind::Learn => ("learn", Text("")),
+        Kind::Crash => ("crash", Text("")),
     }
 }
 
-/// The shape of the mark of an event.
-fn shape_of(event: &Event) -> &'static str
-    ensures { result.now ≡ shape_of event.now }
+/// The shape of the mark of an event, and the three rows above it.
+fn rows(event: &Event) -> (&'static str, Piece<'static>, Piece<'static>, Piece<'static>)
+    ensures shape { result.0.now ≡ shape_of event.now }
+    ensures first { piece_text result.1 ≡ first_row event.now }
+    ensures second { piece_text result.2 ≡ second_row event.now }
+    ensures third { piece_text result.3 ≡ third_row event.now }
 {
     match *event {
-        Event::Step { kind, .. } => word_of(kind),
-        Event::Lost(_) => "lost",
-    }
-}
-
-/// The name of a step, or `lost`.
-fn first_row(event: &Event) -> Piece<'static>
-    ensures { piece_text result ≡ first_row event.now }
-{
-    match *event {
-        Event::Step { p, k, .. } => Between(usize::from(p.number()), ".", usize::from(k)),
-        Event::Lost(_) => Text("lost"),
-    }
-}
-
-/// What a step does, or the message of a lost copy.
-fn second_row(event: &Event) -> Piece<'static>
-    ensures { piece_text result ≡ second_row event.now }
-{
-    match *event {
-        Event::Step { kind, .. } => Text(word_of(kind)),
+        Event::Step { p, k, kind } => {
+            let (word, what) = kind_texts(p, kind);
+            let name = Between(usize::from(p.number()), ".", usize::from(k));
+            (word, name, Text(word), what)
+        }
         Event::Lost(copy) => {
             let name = copy.msg;
-            message(name.s, name.m)
+            let to = After("to ", usize::from(copy.to.number()));
+            ("lost", Text("lost"), message(name.s, name.m), to)
         }
-    }
-}
-
-/// With what, or the receiver of a lost copy.
-fn third_row(event: &Event) -> Piece<'static>
-    ensures { piece_text result ≡ third_row event.now }
-{
-    match *event {
-        Event::Step { p, kind, .. } => with_of(p, kind),
-        Event::Lost(copy) => After("to ", usize::from(copy.to.number())),
     }
 }
 
@@ -187,30 +153,23 @@ fn below<T: Runs>(run: &T, deed: &Deed, event: &Event, decided: Option<Val>) -> 
     }
 }
 
-/// How what stands below a mark looks, and where it stands: a decision beside the arrow of a read or a write.
-fn below_place(event: &Event, decided: Option<Val>) -> &'static str
-    ensures { result.now ≡ below_place decided event.now }
+/// The ring of a decision with its word, and how what stands below the mark looks, and where: a decision beside the
+/// arrow of a read or a write.
+fn ring(event: &Event, decided: Option<Val>) -> (&'static str, &'static str)
+    ensures ring { result.0.now ≡ decided_text decided }
+    ensures place { result.1.now ≡ below_place decided event.now }
 {
+    let ring = "<use href='#decided'/><text class='decision' y='-48'>decides</text>";
     match (decided, *event) {
-        (None, _) => "class='value' y='22'",
+        (None, _) => ("", "class='value' y='22'"),
         (
             Some(_),
             Event::Step {
                 kind: Kind::Read(_) | Kind::Write(_),
                 ..
             },
-        ) => "class='beside' x='3' y='33'",
-        (Some(_), _) => "class='decision' y='22'",
-    }
-}
-
-/// The ring of a decision, and its word.
-fn ring(decided: Option<Val>) -> &'static str
-    ensures { result.now ≡ decided_text decided }
-{
-    match decided {
-        Some(_) => "<use href='#decided'/><text class='decision' y='-48'>decides</text>",
-        None => "",
+        ) => (ring, "class='beside' x='3' y='33'"),
+        (Some(_), _) => (ring, "class='decision' y='22'"),
     }
 }
 
@@ -224,29 +183,22 @@ fn begun(deed: &Deed) -> Option<u32>
     }
 }
 
-/// The tick of a round that begins.
-fn tick(round: Option<u32>) -> &'static str
-    ensures { result.now ≡ tick_text round }
+/// The tick of a round that begins, and what stands in the second row below the mark: the round, or the value of what
+/// a step by itself did.
+fn tick(round: Option<u32>, deed: &Deed, event: &Event) -> (&'static str, Piece<'static>)
+    ensures tick { result.0.now ≡ tick_text round }
+    ensures note { piece_text result.1 ≡ note_text round deed.now event.now }
 {
-    match round {
-        Some(_) => "<path d='M-15,-5v10'/>",
-        None => "",
-    }
-}
-
-/// What stands in the second row below the mark of an event: the round that it begins, or the value of what it did.
-fn note(round: Option<u32>, deed: &Deed, event: &Event) -> Piece<'static>
-    ensures { piece_text result ≡ note_text round deed.now event.now }
-{
-    if let Some(round) = round {
-        return After("round ", round as usize);
-    }
-    match *event {
-        Event::Step {
-            kind: Kind::Local | Kind::Learn,
-            ..
-        } => deed_texts(deed).1,
-        _ => Text(""),
+    match (round, *event) {
+        (Some(round), _) => ("<path d='M-15,-5v10'/>", After("round ", round as usize)),
+        (
+            None,
+            Event::Step {
+                kind: Kind::Local | Kind::Learn,
+                ..
+            },
+        ) => ("", deed_texts(deed).1),
+        (None, _) => ("", Text("")),
     }
 }
 
@@ -278,12 +230,11 @@ fn mark<'a, T: Runs>(
         whole.entry.now }
 {
     let decided = decision_by(run, event);
-    let (first, second) = (decided, decided);
-    let (ring, place) = (ring(first), below_place(event, second));
+    let again = decided;
     let below = below(run, deed, event, decided);
-    let begun = begun(deed);
-    let again = begun;
-    let (tick, note) = (tick(begun), note(again, deed, event));
+    let (ring, place) = ring(event, again);
+    let (tick, note) = tick(begun(deed), deed, event);
+    let (shape, first, second, third) = rows(event);
     let at = spot(grid, position, lane_of(event));
     [
         Text("<g class='"),
@@ -296,13 +247,13 @@ fn mark<'a, T: Runs>(
         Text(ring),
         Text(tick),
         Text("<use href='#"),
-        Text(shape_of(event)),
+        Text(shape),
         Text("'/><text y='-37'>"),
-        first_row(event),
+        first,
         Text("</text><text y='-26'>"),
-        second_row(event),
+        second,
         Text("</text><text y='-15'>"),
-        third_row(event),
+        third,
         Text("</text><text "),
         Text(place),
         Text(">"),
@@ -313,11 +264,11 @@ fn mark<'a, T: Runs>(
     ]
 }
 
-/// Puts the mark of the last event of a run, which stands at a position, from 1, and what the event left in a register.
+/// Adds the mark of the last event of a run, which stands at a position, from 1, and what the event left in a register.
 /// Its whole text is made in `whole`.
-#[tactic(auto, using(crate::proofs::Parted::cut_before, crate::proofs::Parted::then, crate::proofs::Parted::nothing))]
-pub(crate) fn put_mark<T: Runs, W: Sink>(
+pub(crate) fn push_mark<T: Runs>(
     alloc: Global,
+    text: &mut String,
     grid: Grid,
     deed: &Deed,
     run: &T,
@@ -325,20 +276,17 @@ pub(crate) fn put_mark<T: Runs, W: Sink>(
     position: usize,
     event: &Event,
     whole: &mut String,
-    buffer: &mut Buffer,
-    out: &mut W,
-) -> Result<(), OutputFault>
+) -> Result<(), AllocError>
     requires grid { IsGrid grid }
     requires position { position ≤ MAX_ENTRIES }
-    ensures { Puts W.stream result out.old buffer.old out.new buffer.new
+    ensures { Pushes result text.old text.new
         (mark_text T.rules grid (T.run run.now) deed.now (T.run run.now) weight position event.now) }
 {
     whole.clear();
     push_whole(alloc, whole, Causes::Shown, deed, run, event)?;
-    put_each(
+    push_each(
+        text,
         &mark(grid, deed, run, weight, position, event, whole.as_str()),
-        buffer,
-        out,
     )?;
-    put_written(grid, run, weight, position, event, buffer, out)
+    push_written(text, grid, run, weight, position, event)
 }

@@ -1,10 +1,10 @@
-//! The pieces of a picture's text, and how they are written.
+//! The pieces of a picture's text, and how they are added to it.
 
 ghost use Rattle.cdb_draw.specs.Pieces.{piece_text, pieces_text};
-ghost use Rattle.cdb_streams.specs.PiecesPut.{Puts};
-ghost use Rattle.std.specs.Prelude.{◌++◌, codes, decimal};
+ghost use Rattle.cdb_text.specs.Pushes.{Pushes};
+ghost use Rattle.std.specs.Prelude.{decimal};
 
-use cdb_streams::{Buffer, OutputFault, Sink};
+use std::alloc::AllocError;
 
 /// A piece of a text; numbers are decimal.
 #[derive(Clone, Copy)]
@@ -19,100 +19,45 @@ pub enum Piece<'a> {
     At(&'a str, usize, usize),
 }
 
-/// Puts a text.
-fn put_text<W: Sink>(text: &str, buffer: &mut Buffer, out: &mut W) -> Result<(), OutputFault>
-    ensures { Puts W.stream result out.old buffer.old out.new buffer.new text.now }
-{
-    buffer.put(out, text.as_bytes())?;
-    Ok(())
-}
-
-/// Puts a number.
-fn put_number<W: Sink>(number: usize, buffer: &mut Buffer, out: &mut W) -> Result<(), OutputFault>
-    ensures { Puts W.stream result out.old buffer.old out.new buffer.new (decimal number) }
+/// Adds a number.
+fn push_number(text: &mut String, number: usize) -> Result<(), AllocError>
+    ensures { Pushes result text.old text.new (decimal number) }
 {
     let mut digits = itoa::Buffer::new();
-    buffer.put(out, digits.format(number).as_bytes())?;
-    Ok(())
+    text.push_str(digits.format(number))
 }
 
-/// Puts a text, and a number after it.
-#[tactic(auto, using(crate::proofs::Parted::cut_before, crate::proofs::Parted::then))]
-fn put_after<W: Sink>(
-    text: &str,
-    number: usize,
-    buffer: &mut Buffer,
-    out: &mut W,
-) -> Result<(), OutputFault>
-    ensures { Puts W.stream result out.old buffer.old out.new buffer.new
-        (text.now ++ decimal number) }
-{
-    put_text(text, buffer, out)?;
-    put_number(number, buffer, out)
-}
-
-/// Puts a number, and a text after it.
-#[tactic(auto, using(crate::proofs::Parted::cut_before, crate::proofs::Parted::then))]
-fn put_before<W: Sink>(
-    number: usize,
-    text: &str,
-    buffer: &mut Buffer,
-    out: &mut W,
-) -> Result<(), OutputFault>
-    ensures { Puts W.stream result out.old buffer.old out.new buffer.new
-        (decimal number ++ text.now) }
-{
-    put_number(number, buffer, out)?;
-    put_text(text, buffer, out)
-}
-
-/// Puts a text, a number after it, and a comma.
-#[tactic(auto, using(crate::proofs::Parted::cut_before, crate::proofs::Parted::then))]
-fn put_first<W: Sink>(
-    text: &str,
-    number: usize,
-    buffer: &mut Buffer,
-    out: &mut W,
-) -> Result<(), OutputFault>
-    ensures { Puts W.stream result out.old buffer.old out.new buffer.new
-        (text.now ++ decimal number ++ codes ",") }
-{
-    put_after(text, number, buffer, out)?;
-    put_text(",", buffer, out)
-}
-
-/// Puts a piece.
-#[tactic(auto, using(crate::proofs::Parted::cut_before, crate::proofs::Parted::then))]
-fn put_piece<W: Sink>(piece: Piece<'_>, buffer: &mut Buffer, out: &mut W) -> Result<(), OutputFault>
-    ensures { Puts W.stream result out.old buffer.old out.new buffer.new
-        (piece_text piece.entry) }
+/// Adds a piece.
+fn push_piece(text: &mut String, piece: Piece<'_>) -> Result<(), AllocError>
+    ensures { Pushes result text.old text.new (piece_text piece.entry) }
 {
     match piece {
-        Piece::Text(text) => put_text(text, buffer, out),
-        Piece::Number(number) => put_number(number, buffer, out),
-        Piece::After(text, number) => put_after(text, number, buffer, out),
-        Piece::Between(first, text, second) => {
-            put_before(first, text, buffer, out)?;
-            put_number(second, buffer, out)
+        Piece::Text(it) => text.push_str(it),
+        Piece::Number(number) => push_number(text, number),
+        Piece::After(before, number) => {
+            text.push_str(before)?;
+            push_number(text, number)
+        }
+        Piece::Between(first, between, second) => {
+            push_number(text, first)?;
+            text.push_str(between)?;
+            push_number(text, second)
         }
         Piece::At(sign, x, y) => {
-            put_first(sign, x, buffer, out)?;
-            put_number(y, buffer, out)
+            text.push_str(sign)?;
+            push_number(text, x)?;
+            text.push_str(",")?;
+            push_number(text, y)
         }
     }
 }
 
-/// Puts pieces, one after the other.
-pub(crate) fn put_each<W: Sink>(
-    pieces: &[Piece<'_>],
-    buffer: &mut Buffer,
-    out: &mut W,
-) -> Result<(), OutputFault>
-    ensures { Puts W.stream result out.old buffer.old out.new buffer.new
-        (pieces_text pieces.now) }
+/// Adds pieces, one after the other.
+pub(crate) fn push_each(text: &mut String, pieces: &[Piece<'_>]) -> Result<(), AllocError>
+    ensures { Pushes result text.old text.new (pieces_text pieces.now) }
 {
     for piece in pieces {
-        put_piece(*piece, buffer, out)?;
+        push_piece(text, *piece)?;
     }
     Ok(())
 }

@@ -3,16 +3,24 @@
 ghost use Rattle.std.specs.HashMap.{get};
 ghost use Rattle.std.specs.Prelude.{◌≡◌, ◌<◌, ◌^◌, ◌*◌, ℕ, List, nat_eq, IfOk, OnOk};
 ghost use Rattle.cdb_base.specs.declared.event.Event.{Event as EventName};
-ghost use Rattle.cdb_draw.specs.Positions.{copy_of, crashed_at, is_crash_of, sent_at, taken_at};
-ghost use Rattle.cdb_draw.specs.Sends.{AreSendsOf, AreTakesOf, copy_code, HasNoted};
-ghost use Rattle.cdb_draw.specs.Sends.{kept_or_noted, message_code, message_of};
+ghost use Rattle.cdb_draw.specs.Positions.{crashed_at, is_crash_of, passed_at, transit_of};
+ghost use Rattle.cdb_draw.specs.Sends.{ArePlaces, Fits, HasNoted, kept_or_noted, message_code, transit_code};
 
 use cdb_base::{CopyName, Event, Kind, MsgName, NoMemory, Proc};
 use std::alloc::Global;
 use std::collections::HashMap;
 
-/// The positions at which messages were sent, by the numbers of their names.
-pub(crate) type Sends = HashMap<u32, usize>;
+/// What an event does with a message.
+#[derive(Clone, Copy)]
+pub(crate) enum Transit {
+    /// It sends the message.
+    Sent(MsgName),
+    /// It receives or loses that copy.
+    Taken(CopyName),
+}
+
+/// The positions at which messages were sent and copies received or lost, by the numbers of their names.
+pub(crate) type Places = HashMap<u32, usize>;
 
 /// A number for the name of a message.
 fn message_code(name: MsgName) -> u32
@@ -23,108 +31,70 @@ fn message_code(name: MsgName) -> u32
     u32::from(name.s.number()) * 65_536 + u32::from(name.m)
 }
 
-/// The message that an event sends, if it sends one.
-fn message_of(event: &Event) -> Option<MsgName>
-    ensures { result ≡ message_of event.now }
+/// One for a message or a copy.
+fn transit_code(transit: Transit) -> u32
+    ensures value { result ≡ transit_code transit }
+    ensures fits { Fits transit }
+{
+    match transit {
+        Transit::Sent(name) => message_code(name) * 16,
+        Transit::Taken(copy) => message_code(copy.msg) * 16 + u32::from(copy.to.number()),
+    }
+}
+
+/// What an event does with a message, if it does something.
+fn transit_of(event: &Event) -> Option<Transit>
+    ensures { result ≡ transit_of event.now }
 {
     match *event {
-        Event::Step {
-            p,
-            kind: Kind::Send(m),
-            ..
-        } => Some(MsgName { s: p, m }),
-        _ => None,
+        Event::Step { p, kind, .. } => match kind {
+            Kind::Send(m) => Some(Transit::Sent(MsgName { s: p, m })),
+            Kind::Recv(s, m) => Some(Transit::Taken(CopyName {
+                msg: MsgName { s, m },
+                to: p,
+            })),
+            _ => None,
+        },
+        Event::Lost(copy) => Some(Transit::Taken(copy)),
     }
 }
 
 /// Notes a position under a number, where none is noted yet.
-fn note(sends: &mut Sends, code: u32, position: usize) -> Result<(), NoMemory>
+fn note(places: &mut Places, code: u32, position: usize) -> Result<(), NoMemory>
     ensures { OnOk result ((q : ℕ) →
-        get nat_eq sends.new q ≡ kept_or_noted (get nat_eq sends.old q) (nat_eq code q) position) }
+        get nat_eq places.new q ≡ kept_or_noted (get nat_eq places.old q) (nat_eq code q) position) }
 {
-    let _noted = sends.entry(code)?.or_insert(position);
+    let _noted = places.entry(code)?.or_insert(position);
     Ok(())
 }
 
-/// Notes the position of an event, where it sends a message.
-fn note_event(sends: &mut Sends, event: &Event, position: usize) -> Result<(), NoMemory>
-    ensures { OnOk result (HasNoted AreSendsOf sends.old sends.new position event.now) }
+/// Notes the position of an event, where it does something with a message.
+fn note_event(places: &mut Places, event: &Event, position: usize) -> Result<(), NoMemory>
+    ensures { OnOk result (HasNoted places.old places.new position event.now) }
 {
-    match message_of(event) {
-        Some(name) => note(sends, message_code(name), position),
+    match transit_of(event) {
+        Some(transit) => note(places, transit_code(transit), position),
         None => Ok(()),
     }
 }
 
-/// The position at which a message was sent, from 1.
-pub(crate) fn position_of_send(sends: &Sends, name: MsgName) -> Option<usize>
-    ensures { (history : List EventName) → AreSendsOf sends.now history →
-        result ≡ sent_at history name }
+/// The places of a history.
+pub(crate) fn places_of(alloc: Global, events: &[Event]) -> Result<Places, NoMemory>
+    ensures { IfOk result (λ places. ArePlaces places events.now) }
 {
-    sends.get(&message_code(name)).copied()
-}
-
-/// The positions at which copies were received or lost, by the numbers of their names.
-pub(crate) type Takes = HashMap<u32, usize>;
-
-/// A number for the name of a copy.
-fn copy_code(copy: CopyName) -> u32
-    ensures value { result ≡ copy_code copy }
-    ensures small { copy.msg.m < 2 ^ 16 }
-    ensures few { copy.to < 16 }
-{
-    message_code(copy.msg) * 16 + u32::from(copy.to.number())
-}
-
-/// The copy that an event receives or loses.
-fn copy_of(event: &Event) -> Option<CopyName>
-    ensures { result ≡ copy_of event.now }
-{
-    match *event {
-        Event::Step {
-            p,
-            kind: Kind::Recv(s, m),
-            ..
-        } => Some(CopyName {
-            msg: MsgName { s, m },
-            to: p,
-        }),
-        Event::Lost(copy) => Some(copy),
-        _ => None,
-    }
-}
-
-/// Notes the position of an event, where it receives or loses a copy.
-fn note_take(takes: &mut Takes, event: &Event, position: usize) -> Result<(), NoMemory>
-    ensures { OnOk result (HasNoted AreTakesOf takes.old takes.new position event.now) }
-{
-    match copy_of(event) {
-        Some(copy) => note(takes, copy_code(copy), position),
-        None => Ok(()),
-    }
-}
-
-/// The positions of all sends of a history, and those at which its copies were received or lost.
-pub(crate) fn places_of(alloc: Global, events: &[Event]) -> Result<(Sends, Takes), NoMemory>
-    ensures sends { IfOk result (λ both. AreSendsOf both.0 events.now) }
-    ensures takes { IfOk result (λ both. AreTakesOf both.1 events.now) }
-{
-    let mut sends = HashMap::new(alloc);
-    let mut takes = HashMap::new(alloc);
+    let mut places = HashMap::new(alloc);
     for i in 0..events.len() {
-        let event = &events[i];
-        note_event(&mut sends, event, i + 1)?;
-        note_take(&mut takes, event, i + 1)?;
+        note_event(&mut places, &events[i], i + 1)?;
     }
-    Ok((sends, takes))
+    Ok(places)
 }
 
-/// The position at which a copy was received or lost, from 1.
-pub(crate) fn position_of_take(takes: &Takes, copy: CopyName) -> Option<usize>
-    ensures { (history : List EventName) → AreTakesOf takes.now history →
-        result ≡ taken_at history copy }
+/// The position at which a message was sent, or a copy received or lost, from 1.
+pub(crate) fn place_of(places: &Places, transit: Transit) -> Option<usize>
+    ensures { (history : List EventName) → ArePlaces places.now history →
+        result ≡ passed_at history transit }
 {
-    takes.get(&copy_code(copy)).copied()
+    places.get(&transit_code(transit)).copied()
 }
 
 /// Whether the event is a crash of process `p`.

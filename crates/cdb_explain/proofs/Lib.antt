@@ -1,4 +1,3 @@
-pub mod Returned
 pub mod Flags
 pub mod SameCauses
 pub mod Along

@@ -1,9 +1,10 @@
 -- The direct causes of an event are the same in the run once it had come to that event.
-use Rattle.std.proofs.Common.{◌≡◌, ℕ, zero, suc, true, false, Bool, List, [], ◌∷◌, Some, Result}
+use Rattle.std.proofs.Common.{◌≡◌, ℕ, zero, suc, true, false, Bool, List, Some, Result}
 use Rattle.std.proofs.Common.{Ok, Err, map, filter, take, slice_get, refl, sym, ap, ◌∙◌, arith}
 use Rattle.std.proofs.Common.{if◌then◌else◌}
 use Rattle.std.specs.List.{flat_map}
 use Rattle.cdb_base.specs.Event.{event_name, is_step_of}
+use Rattle.std.proofs.lemmas.List.{take-take}
 use Rattle.std.proofs.lemmas.Option.{none-some}
 use Rattle.cdb_base.specs.Positions.{nth}
 use Rattle.cdb_base.specs.Processes.{all_processes}
@@ -16,8 +17,7 @@ use Rattle.cdb_causal.specs.Rollback.{events_before}
 use Rattle.cdb_causal.specs.StandingEvents.{IsStanding}
 use Rattle.cdb_rules.proofs.Beginnings.{taken}
 use Rattle.cdb_rules.specs.Undo.{causes_of, direct_among, for_standing, names_processes}
-use Rattle.cdb_rules.proofs.Results.{found_is}
-use Rattle.cdb_rules.proofs.NamesFound.{no_process_named, stands_from_one, stands_named}
+use Rattle.cdb_rules.proofs.Undo.{found_is, no_process_named, stands_from_one, stands_named}
 use Rattle.cdb_rules.proofs.ListMembers.{get-take}
 
 -- the names of the direct causes of an event, before which these stand
@@ -46,17 +46,12 @@ module _ (n : ℕ) (history : List Event) (at : ℕ) (event : Event) (stands : n
       is_position : IsPositionOf history name at
       is_position = record { from_one = stands_from_one history at event stands; named = (event, stands, refl); only = only }
 
-first_of_first : {A : Type 0} (xs : List A) (i : ℕ) → take i (take (suc i) xs) ≡ take i xs
-first_of_first xs zero = refl
-first_of_first [] (suc i) = refl
-first_of_first (x ∷ xs) (suc i) = ap (λ l. x ∷ l) (first_of_first xs i)
-
 -- they are the same in the history up to the event
 pub same_causes : (n : ℕ) (history : List Event) → IsStanding history → (i : ℕ) (event : Event) → slice_get history i ≡ Some event
     → causes_of n (take (suc i) history) (event_name event) ≡ causes_of n history (event_name event)
 same_causes n history standing i event at =
     causes_at n (take (suc i) history) (suc i) event (get-take history (suc i) i (omega arith) ∙ at) only_first
-    ∙ ap (λ earlier. causes_among (names_processes n (event_name event)) earlier event) (first_of_first history i)
+    ∙ ap (λ earlier. causes_among (names_processes n (event_name event)) earlier event) (take-take i (suc i) history (omega arith))
     ∙ sym (causes_at n history (suc i) event at only)
   where
     only : (k : ℕ) → IsNamedAt history k (event_name event) → k ≡ suc i

@@ -1,7 +1,6 @@
 -- The explanation of a step: what led to it, as text.
 use Rattle.std.specs.Prelude.{◌≡◌, ℕ, ◌-◌, List, [], ◌++◌, codes, decimal, length, take}
-use Rattle.std.specs.Prelude.{Option, Some, None, Result, Ok, Err, Bool, Vec}
-use Rattle.std.specs.Global.{Global}
+use Rattle.std.specs.Prelude.{Option, Some, None, Result, Ok, Err, Bool}
 use Rattle.std.specs.List.{flat_map}
 use Rattle.std.specs.Option.{option_map_or}
 use Rattle.cdb_base.specs.Event.{event_name}
@@ -20,7 +19,7 @@ use Rattle.cdb_control.specs.Commands.{decides}
 use Rattle.cdb_deeds.specs.Deeds.{deed_in}
 use Rattle.cdb_deeds.specs.declared.deed.Deed.{Deed}
 use Rattle.cdb_deeds.specs.declared.deed.Deed.TheVariants.{Nothing}
-use Rattle.cdb_explain.specs.Asked.{IsStepAsked, StandsNoStep}
+use Rattle.cdb_explain.specs.Asked.{IsStepAsked}
 use Rattle.cdb_explain.specs.DeedTexts.{deed_text}
 use Rattle.cdb_explain.specs.Flagged.{flagged_of_first}
 use Rattle.cdb_explain.specs.declared.line.Causes.{Causes}
@@ -125,8 +124,3 @@ IsExplanation rules run position text =
 abbrev pub IsStepExplained : (Parts → Rules) → RunView → ℕ → Option ℕ → List ℕ → Type 0
 IsStepExplained rules run p k text =
     (position : ℕ) × IsStepAsked run.history p k position × IsExplanation rules run position text
-
--- the text is the explanation of that step, or no such step stands and there is no text
-abbrev pub IsExplainedIfStanding : (Parts → Rules) → RunView → ℕ → Option ℕ → Option (Vec ℕ Global) → Type 0
-IsExplainedIfStanding rules run p k (Some text) = IsStepExplained rules run p k text.items
-IsExplainedIfStanding rules run p k None = StandsNoStep run.history p k

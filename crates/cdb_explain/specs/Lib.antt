@@ -5,6 +5,8 @@ pub mod DeedTexts
 pub mod Explanations
 pub mod Rounds
 pub mod RunLeft
-pub mod StepFaults
-pub mod Explained
+pub mod TextFaults
+pub mod Endings
 pub mod FaultTexts
+-- what the code keeps for itself
+pub mod Replays

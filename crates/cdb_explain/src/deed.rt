@@ -10,20 +10,12 @@ use cdb_base::{MsgName, Proc, Val};
 use cdb_deeds::{Deed, Messages, Source};
 use std::alloc::AllocError;
 
-/// Adds the name of a message after a space.
-fn push_named(text: &mut String, name: MsgName) -> Result<(), AllocError>
-    ensures { Pushes result text.old text.new (named_text name) }
-{
-    let (s, m) = (name.s.number(), name.m);
-    write!(text, " {s}#{m}")
-}
-
 /// Adds each name after a space.
-fn push_each_named(text: &mut String, names: &[MsgName]) -> Result<(), AllocError>
+fn push_names(text: &mut String, names: &[MsgName]) -> Result<(), AllocError>
     ensures { Pushes result text.old text.new (flat_map named_text names.now) }
 {
     for name in names {
-        push_named(text, *name)?;
+        write!(text, " {name}")?;
     }
     Ok(())
 }
@@ -33,33 +25,29 @@ fn push_by(text: &mut String, by: &Messages) -> Result<(), AllocError>
     ensures { Pushes result text.old text.new (by_text by.now) }
 {
     text.push_str(" by")?;
-    push_each_named(text, by.names())
+    push_names(text, by.names())
 }
 
 /// Adds a value and its message, after a word.
 fn push_source(text: &mut String, word: &str, source: Source) -> Result<(), AllocError>
     ensures { Pushes result text.old text.new (word.now ++ source_text source) }
 {
-    text.push_str(word)?;
-    let value = source.value.number();
-    write!(text, "{value} of")?;
-    push_named(text, source.message)
+    let (value, message) = (source.value.number(), source.message);
+    write!(text, "{word}{value} of {message}")
 }
 
 /// Adds a number after a word.
 fn push_number(text: &mut String, word: &str, number: u32) -> Result<(), AllocError>
     ensures { Pushes result text.old text.new (word.now ++ decimal number) }
 {
-    text.push_str(word)?;
-    write!(text, "{number}")
+    write!(text, "{word}{number}")
 }
 
 /// Adds a register by its number, after a word.
 fn push_register(text: &mut String, word: &str, register: usize) -> Result<(), AllocError>
     ensures { Pushes result text.old text.new (word.now ++ register_text register) }
 {
-    text.push_str(word)?;
-    write!(text, " r{register}")
+    write!(text, "{word} r{register}")
 }
 
 /// Adds a vote for the value of a leader.

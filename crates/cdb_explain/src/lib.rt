@@ -1,7 +1,7 @@
 //! The run that a script leaves, and what led to a step of it, as text.
 //!
 //! ```text
-//! let run = run_left_by::<AnyRun, _>(alloc, setup, &mut script)?;
+//! let run = run_left_by::<AnyRun>(alloc, setup, script)?;
 //! let text = explain_step::<AnyRun>(alloc, &run, 2, None)?;
 //! ```
 #![tactic(auto)]
@@ -9,23 +9,17 @@
 mod asked;
 mod deed;
 mod detail;
-mod explains;
 mod fault;
 mod left;
 mod line;
 mod lines;
 mod replay;
-mod round;
 mod step;
-mod trace;
 
 pub use asked::position_of_step;
-pub use explains::explain;
 pub use fault::AnswerFault;
-pub use left::{control_after, run_left_by};
-pub use line::{Causes, decision_by, push_whole};
+pub use left::{control_after, read_both, run_left_by, trace_of};
+pub use line::{Causes, decision_by, push_whole, round_by};
 pub use lines::{explanation, push_count, push_lines};
-pub use replay::{fresh, take_next};
-pub use round::round_by;
+pub use replay::{fresh, next_deed, play_on, played};
 pub use step::explain_step;
-pub use trace::trace_of;

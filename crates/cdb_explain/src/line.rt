@@ -4,6 +4,7 @@
 ghost use Rattle.cdb_base.specs.Event.{event_name};
 ghost use Rattle.cdb_control.specs.Commands.{decides};
 ghost use Rattle.cdb_explain.specs.Explanations.{because_text, line_text, shown_causes, whole_text};
+ghost use Rattle.cdb_explain.specs.Rounds.{round_by};
 ghost use Rattle.cdb_rules.specs.EventRefs.{name_given};
 ghost use Rattle.cdb_rules.specs.Runs.{causes_in};
 ghost use Rattle.cdb_text.specs.Pushes.{Pushes};
@@ -46,6 +47,18 @@ pub fn decision_by<T: Runs>(run: &T, event: &Event) -> Option<Val>
     match *event {
         Event::Step { p, .. } => run.view(u32::from(p.number()))?.decision,
         Event::Lost(_) => None,
+    }
+}
+
+/// The round of the process of a step; 0 for the loss of a copy, and where the run has no such process.
+pub fn round_by<T: Runs>(run: &T, event: &Event) -> u32
+    ensures { result ≡ round_by T.rules (T.run run.now) event.now }
+{
+    match *event {
+        Event::Step { p, .. } => run
+            .view(u32::from(p.number()))
+            .map_or(0, |process| process.round),
+        Event::Lost(_) => 0,
     }
 }
 

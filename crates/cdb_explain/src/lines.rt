@@ -1,40 +1,48 @@
 //! The lines of the flagged events.
 
-ghost use Rattle.cdb_deeds.specs.Deeds.{deed_in, received_by_each};
-ghost use Rattle.cdb_explain.specs.Explanations.{count_text, events_text, line_text, lines_text, IsExplanation};
+ghost use Rattle.cdb_explain.specs.Explanations.{count_text, events_text, line_at, lines_text, IsExplanation};
 ghost use Rattle.cdb_explain.specs.Flagged.{flagged_of_first};
+ghost use Rattle.cdb_explain.specs.Replays.{IsPlayed};
 ghost use Rattle.cdb_rules.specs.ByRules.{IsInOrder};
-ghost use Rattle.cdb_rules.specs.Runs.{with_event};
 ghost use Rattle.cdb_text.specs.Pushes.{Pushes};
-ghost use Rattle.std.specs.Prelude.{◌≡◌, ◌≤◌, length, IfOk, OnOk};
+ghost use Rattle.std.specs.Prelude.{◌≡◌, ◌+◌, ◌<◌, ◌≤◌, suc, [], length, if◌then◌else◌, IfOk, OnOk};
 
 use crate::line::{Causes, push_line};
-use crate::replay::{fresh, take_next};
-use cdb_base::{Event, NoMemory};
+use crate::replay::{fresh, next_deed, play_on};
+use cdb_base::NoMemory;
 use cdb_deeds::{HasDeeds, ReceivedNames};
 use cdb_rules::Trace;
 use std::alloc::{AllocError, Global};
 
-/// Takes the next event of a run that is played again, and adds its line. The run is asked before the event for what
-/// the event does, and after it for all else.
+/// Takes the next event of a run that is played again; where it is flagged its line is added, and one is returned, else
+/// none. The run is asked before the event for what the event does, and after it for all else.
 fn push_next<T: HasDeeds>(
     alloc: Global,
     text: &mut String,
     causes: Causes,
     again: &mut T,
-    names: &ReceivedNames,
-    event: &Event,
-) -> Result<(), NoMemory>
-    requires names { names.now ≡ received_by_each (T.run again.old).history }
-    requires next { IsInOrder T.rules (with_event (T.run again.old) event.now) }
-    ensures taken { OnOk result (T.run again.new ≡ with_event (T.run again.old) event.now) }
+    names: &mut ReceivedNames,
+    run: &Trace,
+    i: usize,
+    flag: bool,
+) -> Result<usize, NoMemory>
+    requires valid { IsInOrder T.rules run.now }
+    requires within { i < length run.now.history }
+    requires played { IsPlayed run.now i (T.run again.old) names.old }
+    ensures played { OnOk result (IsPlayed run.now (i + 1) (T.run again.new) names.new) }
     ensures line { Pushes result text.old text.new
-        (line_text T.rules causes (T.run again.new) (deed_in (T.run again.old) event.now) (T.run again.new) event.now) }
+        (if flag then line_at T.rules causes run.now (suc i) else []) }
+    ensures count { IfOk result (λ count. count ≡ (if flag then 1 else 0)) }
 {
-    let deed = again.deed(alloc, names, event)?;
-    take_next(alloc, again, event)?;
-    push_line(alloc, text, causes, &deed, again, event)?;
-    Ok(())
+    if flag {
+        let deed = next_deed(alloc, again, names, run, i)?;
+        play_on(alloc, again, names, run, i)?;
+        let events = run.events();
+        push_line(alloc, text, causes, &deed, again, &events[i])?;
+        return Ok(1);
+    }
+    play_on(alloc, again, names, run, i)?;
+    Ok(0)
 }
 
 /// Adds the lines of the flagged events, in the order of the history, with their causes or without, and returns how
@@ -54,20 +62,12 @@ pub fn push_lines<T: HasDeeds>(
         count ≡ length (flagged_of_first (length run.now.history) flags.now)) }
 {
     let mut again = fresh::<T>(alloc, run)?;
-    // Its clause says that the parts of the setup are in range.
-    let _ranges = run.setup().n();
-    let events = run.events();
     let mut names = ReceivedNames::none(alloc)?;
     let mut count = 0;
-    for i in 0..events.len() {
-        let event = &events[i];
-        if flags[i] {
-            push_next(alloc, text, causes, &mut again, &names, event)?;
-            count += 1;
-        } else {
-            take_next(alloc, &mut again, event)?;
-        }
-        names.add(event)?;
+    for i in 0..run.events().len() {
+        count += push_next(
+            alloc, text, causes, &mut again, &mut names, run, i, flags[i],
+        )?;
     }
     Ok(count)
 }

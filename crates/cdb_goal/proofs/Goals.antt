@@ -1,8 +1,7 @@
 -- What the processes that are shown say of a goal.
-use Rattle.std.proofs.Common.{◌≡◌, ◌≢◌, ◌↔◌, ◌==◌, inl, inr, ℕ, Bool, false, List, Option, Some, None, IsTrue, not, refl, sym, ◌∙◌, subst}
+use Rattle.std.proofs.Common.{◌≡◌, ◌≢◌, ◌↔◌, ◌==◌, inl, inr, ℕ, Bool, false, List, Option, Some, None, IsTrue, not, refl, sym, ◌∙◌, arith}
 use Rattle.std.specs.Option.{option_map_or}
-use Rattle.std.proofs.lemmas.Bool.{false≢true}
-use Rattle.std.proofs.lemmas.Bool.Decides.{eqb_tells}
+use Rattle.std.proofs.lemmas.Bool.Decides.{eqb_tells, nat_tests}
 use Rattle.cdb_base.specs.declared.event.Event.{Event}
 use Rattle.cdb_goal.specs.Holds.{Holds, IsDecided, ShowsProcess}
 use Rattle.cdb_goal.specs.Tests.{passes}
@@ -20,22 +19,10 @@ module _ (rules : Rules) (history : List Event) where
   other_of : (value : ℕ) (decision : Option ℕ) → IsTrue (option_map_or (λ other. not (other == value)) decision false)
       → (other : ℕ) × (value ≢ other) × (decision ≡ Some other)
   other_of value None is = cc
-  other_of value (Some other) is =
-      elim (eqb_tells other value) [
-        | inl same ↦ absurd (false≢true (subst (λ (b : Bool). IsTrue (not b)) same.0 is))
-        | inr differ ↦ (other, (λ same. differ.1 (sym same)), refl)
-      ]
-
-  is_other : (value other : ℕ) → other ≢ value → IsTrue (not (other == value))
-  is_other value other differ =
-      elim (eqb_tells other value) [
-        | inl same ↦ absurd (differ same.1)
-        | inr is ↦ subst (λ (b : Bool). IsTrue (not b)) (sym is.0) refl
-      ]
+  other_of value (Some other) is = (other, (λ same. absurd (grind (arith, nat_tests))), refl)
 
   passes_other : (value other : ℕ) → other ≢ value → IsDecided rules history other → Passes (HasDecidedOther value)
-  passes_other value other differ (p, it, is, decided) =
-      (p, it, is, subst (λ (d : Option ℕ). IsTrue (option_map_or (λ other. not (other == value)) d false)) (sym decided) (is_other value other differ))
+  passes_other value other differ (p, it, is, decided) = (p, it, is, rw decided (grind (arith, nat_tests)))
 
   -- two decisions differ exactly where one differs from a decision that stands
   pub differ_from : (value : ℕ) → IsDecided rules history value → Passes (HasDecidedOther value) ↔ Holds rules history Differ

@@ -25,17 +25,6 @@ use cdb_streams::{Buffer, OutputFault, PlayFault, Sink, Source, put_reply};
 use itoa::Buffer as Digits;
 use std::alloc::Global;
 
-/// Puts `S `, which stands before the text of a reply.
-fn put_seat<W: Sink>(seat: u8, buffer: &mut Buffer, out: &mut W) -> Result<(), OutputFault>
-    ensures { Puts W.stream result out.old buffer.old out.new buffer.new
-        (decimal seat ++ codes " ") }
-{
-    let mut digits = Digits::new();
-    buffer.put(out, digits.format(seat).as_bytes())?;
-    buffer.put(out, b" ")?;
-    Ok(())
-}
-
 /// Carries a command out for its seat, and puts the line of the reply, whose text is made in `text`.
 fn perform<T: Runs, W: Sink>(
     alloc: Global,
@@ -53,7 +42,9 @@ fn perform<T: Runs, W: Sink>(
 {
     let seat = entry.seat;
     let reply = carry_out(alloc, control, entry)?;
-    put_seat(seat, buffer, out)?;
+    let mut digits = Digits::new();
+    buffer.put(out, digits.format(seat).as_bytes())?;
+    buffer.put(out, b" ")?;
     put_reply(&reply, text, buffer, out)
 }
 
@@ -100,26 +91,7 @@ fn perform_all<T: Runs, W: Sink>(
     performed
 }
 
-/// Carries the commands out as `perform_all` does, and writes the lines in pieces, by way of an empty buffer.
-fn write_pieces<T: Runs, W: Sink>(
-    alloc: Global,
-    setup: Setup,
-    entries: &[Entry],
-    buffer: &mut Buffer,
-    out: &mut W,
-) -> Result<(), OutputFault>
-    requires seats { AreOfSeats MAX_SEATS entries.now }
-    requires room { length entries.now ≤ MAX_ENTRIES }
-    requires empty { buffer.old ≡ [] }
-    ensures { IsWritten W.stream (pieces_ending result) out.old out.new
-        (Only (seat_replies_text (seat_replies_along (T.rules setup) setup MAX_SEATS entries.now))) }
-{
-    perform_all::<T, W>(alloc, setup, entries, buffer, out)?;
-    buffer.flush(out)?;
-    Ok(())
-}
-
-/// Writes the lines as `write_pieces` does.
+/// Carries the commands out as `perform_all` does, and writes the lines in pieces.
 fn write_replies<T: Runs, W: Sink>(
     alloc: Global,
     setup: Setup,
@@ -132,27 +104,8 @@ fn write_replies<T: Runs, W: Sink>(
         (Only (seat_replies_text (seat_replies_along (T.rules setup) setup MAX_SEATS entries.now))) }
 {
     let mut buffer = Buffer::new(alloc)?;
-    write_pieces::<T, W>(alloc, setup, entries, &mut buffer, out)
-}
-
-/// Plays a journal again on a run of the setup, by the rules of such a run.
-fn replay_by<T: Runs, R: Source, W: Sink>(
-    alloc: Global,
-    setup: &[u8],
-    journal: &mut R,
-    out: &mut W,
-) -> Result<(), PlayFault>
-    ensures wrote { IsWritten W.stream (play_ending result) out.old out.new
-        (Replays T.rules setup.now (R.stream journal.old) (R.stream journal.new)) }
-    ensures fault { IfErr result
-        (IsFaultOfReplay setup.now (R.stream journal.old) (R.stream journal.new)) }
-    ensures unread { (fault : SetupFaultName) → result ≡ Err (PlayFault.Setup fault) →
-        journal.new ≡ journal.old }
-    ensures read { FailsWhere R.stream (result ≡ Err PlayFault.Read) journal.old journal.new }
-{
-    let setup = Setup::read(alloc, setup)?;
-    let entries = read_entries(alloc, journal)?;
-    write_replies::<T, W>(alloc, setup, entries.as_slice(), out)?;
+    perform_all::<T, W>(alloc, setup, entries, &mut buffer, out)?;
+    buffer.flush(out)?;
     Ok(())
 }
 
@@ -185,5 +138,8 @@ pub fn replay<T: Runs, R: Source, W: Sink>(
 {
     // Its clause says that a journal that was written is read back, and that its seats are told the same.
     laws::journals_are_replayed();
-    replay_by::<T, R, W>(alloc, setup, journal, out)
+    let setup = Setup::read(alloc, setup)?;
+    let entries = read_entries(alloc, journal)?;
+    write_replies::<T, W>(alloc, setup, entries.as_slice(), out)?;
+    Ok(())
 }

@@ -1,45 +1,161 @@
--- How the index of an inbox changes with its last message.
+-- What an index keeps of an inbox, and how it changes with the last message.
 use Rattle.std.proofs.lemmas.Grind.{common_steps}
 use Rattle.std.proofs.lemmas.Option.{gets}
-use Rattle.std.proofs.Common.{◌≡◌, ℕ, zero, suc, ◌<◌, Bool, true, false, cond, List, [], ◌∷◌, ◌++◌, Option, Some, None, length, arith, refl, ap, sym, subst}
-use Rattle.std.proofs.Common.{◌∙◌, eqb-true, eq-eqb}
-use Rattle.std.specs.Prelude.{◌==◌, if◌then◌else◌, is_some, nat_eq}
-use Rattle.std.specs.Option.{option_map, option_or, unwrap_or}
-use Rattle.std.specs.HashMap.{get}
+use Rattle.std.proofs.Common.{◌≡◌, ℕ, zero, suc, ◌<◌, ◌≤◌, Bool, true, ◌&&◌, List, [], ◌∷◌, ◌++◌, Option, Some, None, length, length-append, ◌-◌}
+use Rattle.std.proofs.Common.{take, drop, arith, refl, ◌∙◌, false, cond, ap, sym, subst, eqb-true, eq-eqb}
+use Rattle.std.proofs.lemmas.List.{take-append-drop, take_all, take_min, take-append-le}
+use Rattle.std.proofs.lemmas.List.Folds.{list_all-append}
+use Rattle.std.specs.Prelude.{min, is_some, not, count_by, slice_get, ◌==◌, if◌then◌else◌, nat_eq}
+use Rattle.std.specs.List.{list_all}
+use Rattle.std.specs.Option.{option_or, option_and_then, unwrap_or}
+use Rattle.cdb_base.specs.Processes.{all_processes}
 use Rattle.cdb_base.specs.declared.payload.Payload.{Payload}
-use Rattle.cdb_base.specs.declared.payload.Payload.TheVariants.{P1, P2, D}
 use Rattle.cdb_leader.specs.declared.inbox.Received.{Received}
-use Rattle.cdb_leader.specs.declared.inbox.FirstPhase.{FirstPhase}
 use Rattle.cdb_leader.specs.declared.firsts.Firsts.{Firsts}
 use Rattle.cdb_leader.specs.declared.row.Row.{Row}
+use Rattle.cdb_leader.specs.declared.spot.TheConstants.{KNOWN}
+use Rattle.cdb_leader.specs.Inbox.{first_given, if_from, first_from, carries, second_phase, is_only_proposal, as_decision, decision_from, learnt, first_phase}
+use Rattle.cdb_leader.specs.Index.{first_position, known, from_kept, AreFirsts, position_from, keeps_none, vote_in, are_different, IsRowOf, message_round}
+use Rattle.cdb_leader.specs.Index.{ChangesFrom, reads_from, IsEmptyRow, IsIndexOf}
+use Rattle.std.specs.HashMap.{get}
+use Rattle.cdb_base.specs.declared.payload.Payload.TheVariants.{P1, P2, D}
+use Rattle.cdb_leader.specs.declared.inbox.FirstPhase.{FirstPhase}
 use Rattle.cdb_leader.specs.declared.index.Index.{Index}
-use Rattle.cdb_leader.specs.Inbox.{first_given, first_phase, second_phase, as_decision}
 use Rattle.cdb_leader.specs.Spot.{noted, forgotten}
-use Rattle.cdb_leader.specs.Index.{message_round, first_position, ChangesFrom, reads_from, AreFirsts, vote_in, are_different}
-use Rattle.cdb_leader.specs.Index.{IsRowOf, IsEmptyRow, IsIndexOf}
-use Rattle.cdb_leader.proofs.Known.{given_parts}
+
+-- ---- What is read by the index of an inbox is what stands in the inbox.
+
+-- ---- the parts, as slices give them
+
+-- what is dropped, where no more is asked for than there is
+drop_min : {X : Type 0} (n : ℕ) (xs : List X) → drop (min n (length xs)) xs ≡ drop n xs
+drop_min n xs = grind (arith, common_steps, gets)
+
+pub known_is : (inbox : List Received) (long at : ℕ) → long ≡ length inbox → at ≡ min KNOWN long → take at inbox ≡ known inbox
+unfolding known
+known_is inbox long at is_long is_at = rw (is_at, is_long) (take_min KNOWN inbox)
+
+pub from_is : (inbox : List Received) (kept : Option ℕ) (long at : ℕ) → long ≡ length inbox → at ≡ min (unwrap_or kept KNOWN) long
+    → take (length inbox - at) (drop at inbox) ≡ from_kept kept inbox
+unfolding from_kept
+from_is inbox kept long at is_long is_at = grind (arith, common_steps, gets, take_all, drop_min)
+
+-- ---- where the index knows all
+
+pub known_all : (inbox : List Received) → length inbox ≤ KNOWN → known inbox ≡ inbox
+unfolding known
+known_all inbox short = take_all KNOWN inbox short
+
+pub known_short : (inbox : List Received) (y : Received) → length inbox < KNOWN → known (inbox ++ y ∷ []) ≡ inbox ++ y ∷ []
+known_short inbox y short = let long = length-append inbox (y ∷ []) in known_all (inbox ++ y ∷ []) (omega arith)
+
+pub known_long : (inbox : List Received) (y : Received) → KNOWN ≤ length inbox → known (inbox ++ y ∷ []) ≡ known inbox
+unfolding known
+known_long inbox y long = take-append-le KNOWN inbox (y ∷ []) long
+
+-- ---- what is read by a position
+
+module _ {X A : Type 0} (f : X → Option A) where
+  -- from the first element of which f gives something, or from the end of the search for it, f gives what it gives of all
+  given_from : (n : ℕ) (xs : List X) → first_given f (drop (unwrap_or (first_position (λ x. is_some (f x)) (take n xs)) n) xs) ≡ first_given f xs
+  given_from zero xs = grind (arith, common_steps, gets)
+  given_from (suc n) [] = refl
+  given_from (suc n) (x ∷ xs) = let rest = given_from n xs in grind (arith, common_steps, gets)
+
+  at_first : (xs : List X) → option_and_then f (option_and_then (slice_get xs) (first_position (λ x. is_some (f x)) xs)) ≡ first_given f xs
+  at_first [] = refl
+  at_first (x ∷ xs) = let rest = at_first xs in grind (arith, common_steps, gets)
+
+  is_first : (xs : List X) → is_some (first_position (λ x. is_some (f x)) xs) ≡ is_some (first_given f xs)
+  is_first [] = refl
+  is_first (x ∷ xs) = let rest = is_first xs in grind (arith, common_steps, gets)
+
+  pub given_parts : (xs ys : List X) → option_or (first_given f xs) (first_given f ys) ≡ first_given f (xs ++ ys)
+  given_parts [] ys = refl
+  given_parts (x ∷ xs) ys = let rest = given_parts xs ys in grind (arith, common_steps, gets)
+
+  none_given : (xs : List X) → ((x : X) → f x ≡ None) → None ≡ first_given f xs
+  none_given [] h = refl
+  none_given (x ∷ xs) h = rw (h x) (none_given xs h)
+
+-- what is read at the position of the first vote
+pub vote_at : (r : ℕ) (row : Row) (inbox : List Received) → IsRowOf r row inbox
+    → option_and_then (λ e. second_phase r e.payload) (option_and_then (slice_get inbox) row.vote) ≡ vote_in r inbox
+vote_at r row inbox h = rw h.vote (at_first (λ e. second_phase r e.payload) inbox)
+
+module _ {A : Type 0} (reading : Payload → Option A) (kept : Firsts) (inbox : List Received) (h : AreFirsts reading kept (known inbox)) where
+  -- what is read from the position that is kept for a sender on
+  pub read_from : (s : ℕ) → first_from s reading (from_kept (position_from s kept) inbox) ≡ first_from s reading inbox
+  unfolding known from_kept
+  read_from s = rw (h s) (given_from (if_from s reading) KNOWN inbox)
+
+  module _ (all : known inbox ≡ inbox) where
+    -- whether a position is kept
+    is_kept : (s : ℕ) → is_some (position_from s kept) ≡ is_some (first_from s reading inbox)
+    is_kept s = rw (h s, all) (is_first (if_from s reading) inbox)
+
+    -- for how many senders one is
+    pub count_kept : count_by (λ s. is_some (position_from s kept)) all_processes ≡ count_by (λ s. is_some (first_from s reading inbox)) all_processes
+    count_kept = λ i. count_by (λ s. is_kept s i) all_processes
+
+nowhere : (kept : Firsts) → keeps_none kept ≡ true → (s : ℕ) → position_from s kept ≡ None
+unfolding position_from
+nowhere kept empty s = grind (arith, common_steps, gets)
+
+-- where none is kept of a decision, none came
+pub no_decision : (kept : Firsts) (inbox : List Received) → AreFirsts as_decision kept (known inbox) → known inbox ≡ inbox → keeps_none kept ≡ true
+    → None ≡ learnt inbox
+no_decision kept inbox h all empty = none_given (λ s. decision_from s inbox) all_processes by_sender where
+  by_sender : (s : ℕ) → decision_from s inbox ≡ None
+  by_sender s = let same = is_kept as_decision kept inbox h all s in let none = nowhere kept empty s in grind (arith, common_steps, gets)
+
+-- ---- whether every second-phase message of a round carries one value
+
+-- where the first stands that carries something else than the first of all
+abbrev pub others : {X : Type 0} → (X → Option (Option ℕ)) → List X → Option ℕ
+others f xs = first_position (λ x. are_different (first_given f xs) (f x)) xs
+
+module _ {X : Type 0} (f : X → Option (Option ℕ)) (w : ℕ) where
+  abbrev passes : List X → Bool
+  passes xs = list_all (λ x. carries w (f x)) xs
+
+  -- where one carries w, no other may carry something else
+  carries_alike : (xs : List X) (a : Option ℕ)
+      → (carries w (Some a) && passes xs) ≡ (carries w (Some a) && not (is_some (first_position (λ x. are_different (Some a) (f x)) xs)))
+  carries_alike [] a = refl
+  carries_alike (x ∷ xs) a = let rest = carries_alike xs a in grind (arith, common_steps, gets)
+
+  one_carries : (x : X) (xs : List X) → passes xs ≡ (carries w (first_given f xs) && not (is_some (others f xs)))
+      → passes (x ∷ xs) ≡ (carries w (first_given f (x ∷ xs)) && not (is_some (others f (x ∷ xs))))
+  one_carries x xs rest = grind (arith, common_steps, gets, carries_alike xs)
+
+  all_carry : (xs : List X) → passes xs ≡ (carries w (first_given f xs) && not (is_some (others f xs)))
+  all_carry [] = refl
+  all_carry (x ∷ xs) = one_carries x xs (all_carry xs)
+
+-- by the row of a round
+pub only_alike : (r w : ℕ) (row : Row) (inbox : List Received) → IsRowOf r row inbox
+    → is_only_proposal r w inbox ≡ (carries w (vote_in r inbox) && not (is_some row.other_vote))
+only_alike r w row inbox h = rw h.other_vote (all_carry (λ e. second_phase r e.payload) w inbox)
+
+pub only_parts : (r w : ℕ) (inbox : List Received) {b : Bool} → b ≡ is_only_proposal r w (known inbox)
+    → (b && is_only_proposal r w (from_kept None inbox)) ≡ is_only_proposal r w inbox
+unfolding known from_kept
+only_parts r w inbox is =
+    rw (is, ← list_all-append (λ e. carries w (second_phase r e.payload)) (take KNOWN inbox) (drop KNOWN inbox), take-append-drop KNOWN inbox)
+
+-- ---- How the index of an inbox changes with its last message.
 
 -- ---- the first that passes
-
-push_by : {X : Type 0} (test : X → Bool) (x : X) (xs : List X) (y : X) (a b : Bool)
-    → first_position test (xs ++ y ∷ []) ≡ (if b then noted (length xs) (first_position test xs) else first_position test xs)
-    → (if a then Some zero else option_map suc (first_position test (xs ++ y ∷ [])))
-    ≡ (if b then noted (suc (length xs)) (if a then Some zero else option_map suc (first_position test xs)) else
-    (if a then Some zero else option_map suc (first_position test xs)))
-push_by test x xs y a b is = grind (arith, common_steps, gets)
 
 first_position-push : {X : Type 0} (test : X → Bool) (xs : List X) (y : X)
     → first_position test (xs ++ y ∷ []) ≡ (if test y then noted (length xs) (first_position test xs) else first_position test xs)
 first_position-push test [] y = refl
-first_position-push test (x ∷ xs) y = push_by test x xs y _ _ (first_position-push test xs y)
-
-within_by : {X : Type 0} (xs : List X) (i : ℕ) (a : Bool) (o : Option ℕ) → ((j : ℕ) → o ≡ Some j → j < length xs)
-    → (if a then Some zero else option_map suc o) ≡ Some i → i < suc (length xs)
-within_by xs i a o below e = grind (arith, common_steps, gets)
+first_position-push test (x ∷ xs) y = let rest = first_position-push test xs y in grind (arith, common_steps, gets)
 
 first_position-within : {X : Type 0} (test : X → Bool) (xs : List X) (i : ℕ) → first_position test xs ≡ Some i → i < length xs
 first_position-within test [] i h = absurd (cc)
-first_position-within test (x ∷ xs) i h = within_by xs i _ _ (λ j. first_position-within test xs j) h
+first_position-within test (x ∷ xs) i h = let rest = λ (j : ℕ). first_position-within test xs j in grind (arith, common_steps, gets)
 
 -- what was noted is forgotten, and nothing else
 undone : (n : ℕ) (b : Bool) (o p : Option ℕ) → ((i : ℕ) → o ≡ Some i → i < n) → p ≡ (if b then noted n o else o)
@@ -61,17 +177,11 @@ module _ {X : Type 0} (f : X → Option (Option ℕ)) where
   -- of what gives nothing no element passes
   nothing : (a : Option (Option ℕ)) (xs : List X) → first_given f xs ≡ None → first_position (λ x. are_different a (f x)) xs ≡ None
   nothing a [] none = refl
-  nothing a (x ∷ xs) none = by_first (f x) (first_given f xs) none (λ h. nothing a xs h) where
-    by_first : (o rest : Option (Option ℕ)) → option_or o rest ≡ None → (rest ≡ None → first_position (λ x. are_different a (f x)) xs ≡ None)
-        → (if are_different a o then Some zero else option_map suc (first_position (λ x. are_different a (f x)) xs)) ≡ None
-    by_first (Some v) rest e more = absurd (cc)
-    by_first None rest e more = rw (not_different a, more e) refl
-
-  abbrev pub others : List X → Option ℕ
-  others xs = first_position (λ x. are_different (first_given f xs) (f x)) xs
+  nothing a (x ∷ xs) none =
+      let rest = λ (h : first_given f xs ≡ None). nothing a xs h in let different = not_different a in grind (arith, common_steps, gets)
 
   pub others-push : (xs : List X) (y : X)
-      → others (xs ++ y ∷ []) ≡ (if are_different (first_given f xs) (f y) then noted (length xs) (others xs) else others xs)
+      → others f (xs ++ y ∷ []) ≡ (if are_different (first_given f xs) (f y) then noted (length xs) (others f xs) else others f xs)
   others-push xs y = rw (given-push f xs y) (by_given (first_given f xs) refl)
     where
       by_given : (a : Option (Option ℕ)) → first_given f xs ≡ a
@@ -82,7 +192,7 @@ module _ {X : Type 0} (f : X → Option (Option ℕ)) where
       by_given None is =
           rw (first_position-push (λ x. are_different (f y) (f x)) xs y, same_vote (f y)) (nothing (f y) xs is ∙ sym (nothing None xs is))
 
-  pub others-back : (xs : List X) (y : X) → others xs ≡ forgotten (length xs) (others (xs ++ y ∷ []))
+  pub others-back : (xs : List X) (y : X) → others f xs ≡ forgotten (length xs) (others f (xs ++ y ∷ []))
   others-back xs y = (undone _ _ _ _ (first_position-within _ xs) (others-push xs y)).0
 
 module _ (r : ℕ) (inbox : List Received) (y : Received) where

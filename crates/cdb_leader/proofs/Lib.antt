@@ -1,10 +1,6 @@
 pub mod SameMessages
 pub mod Quorum
 pub mod Readings
-pub mod TableSteps
-pub mod Trace
 pub mod Values
-pub mod LookUps
-pub mod Known
 pub mod IndexLaws
 pub mod Promised

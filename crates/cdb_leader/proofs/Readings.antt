@@ -1,9 +1,8 @@
 -- What the leader machine reads from its inbox stands there.
 use Rattle.std.proofs.lemmas.Grind.{common_steps}
 use Rattle.std.proofs.lemmas.Option.{gets, none-some}
-use Rattle.std.specs.Prelude.{◌≡◌, ℕ, ◌≤◌, Bool, true, ◌==◌, ◌&&◌, nat_le, List, [], ◌∷◌, Contains, Option, Some, None, is_some, refl}
-use Rattle.std.specs.Prelude.{if◌then◌else◌, count_by, find}
-use Rattle.std.specs.Option.{option_map, option_and_then, option_flatten}
+use Rattle.std.specs.Prelude.{◌≡◌, ℕ, ◌≤◌, Bool, true, nat_le, List, [], ◌∷◌, Option, Some, None, is_some, refl, count_by, find}
+use Rattle.std.specs.Option.{option_flatten}
 use Rattle.std.specs.List.{list_all}
 use Rattle.std.proofs.Common.{inl, inr, arith, sym, ◌∙◌, ap, subst, eqb-true, eq-eqb, leb-true}
 use Rattle.cdb_base.specs.Processes.{all_processes}
@@ -11,29 +10,14 @@ use Rattle.cdb_base.specs.declared.payload.Payload.{Payload}
 use Rattle.cdb_base.specs.declared.payload.Payload.TheVariants.{P1, P2, D}
 use Rattle.cdb_leader.specs.declared.inbox.Received.{Received}
 use Rattle.cdb_leader.specs.declared.inbox.FirstPhase.{FirstPhase}
-use Rattle.cdb_leader.specs.Inbox.{first_given, if_from, first_phase, second_phase, as_decision, first_from, first_phase_from, second_phase_from, decision_from}
-use Rattle.cdb_leader.specs.Inbox.{names, backers, is_agreed, agreed_leader, agreed_estimate, second_phase_senders, proposal, carries, is_only_proposal, learnt}
+use Rattle.cdb_leader.specs.Inbox.{first_given, first_phase, second_phase, as_decision, first_from, first_phase_from, second_phase_from}
+use Rattle.cdb_leader.specs.Inbox.{decision_from, names, backers, is_agreed, agreed_leader, agreed_estimate, second_phase_senders, proposal, carries}
+use Rattle.cdb_leader.specs.Inbox.{is_only_proposal, learnt}
 use Rattle.cdb_leader.specs.Quorum.{count_processes, IsQuorum}
 use Rattle.cdb_leader.specs.Bases.{AuxBasis, Carried, Voted, VotedAlike}
 use Rattle.cdb_leader.specs.Trace.{IsHeard}
+use Rattle.cdb_process.proofs.Options.{mapped, bound, where_true, both, some_of}
 use Rattle.cdb_process.proofs.Members.{IsIn, contained_in, in_contained}
-
--- ---- where a choice among options is some
-
-pub mapped : {A B : Type 0} (f : A → B) (o : Option A) (y : B) → option_map f o ≡ Some y → (x : A) × (o ≡ Some x) × (f x ≡ y)
-mapped f o y is = grind (arith, gets)
-
-bound : {A B : Type 0} (f : A → Option B) (o : Option A) (y : B) → option_and_then f o ≡ Some y → (x : A) × (o ≡ Some x) × (f x ≡ Some y)
-bound f o y is = grind (arith, gets)
-
-pub where_true : {A : Type 0} (b : Bool) (o : Option A) (y : A) → (if b then o else None) ≡ Some y → (b ≡ true) × (o ≡ Some y)
-where_true b o y is = grind arith
-
-some_of : {A : Type 0} (o : Option A) → is_some o ≡ true → (a : A) × (o ≡ Some a)
-some_of o is = grind (arith, gets)
-
-both_true : (a b : Bool) → a && b ≡ true → (a ≡ true) × (b ≡ true)
-both_true a b is = grind arith
 
 -- ---- lists
 
@@ -50,9 +34,8 @@ found_passes test [] x is = absurd (none-some x is)
 found_passes test (z ∷ zs) x is = let later = found_passes test zs x in grind (arith, common_steps, gets)
 
 all_pass : {X : Type 0} (test : X → Bool) (xs : List X) → list_all test xs ≡ true → (x : X) → IsIn x xs → test x ≡ true
-all_pass test (z ∷ zs) is x (inl same) = ap test same ∙ (both_true _ _ is).0
-all_pass test (z ∷ zs) is x (inr there) = all_pass test zs (both_true _ _ is).1 x there
 all_pass test [] is x here = elim here [ ]
+all_pass test (z ∷ zs) is x here = let later = λ (h : list_all test zs ≡ true). all_pass test zs h x in grind (arith, common_steps, gets)
 
 -- ---- the processes 1 to 9
 
@@ -69,12 +52,7 @@ count_all test = omega arith
 -- a reading from a sender is that of a message
 heard_from : {A : Type 0} (reading : Payload → Option A) (s : ℕ) (inbox : List Received) (a : A) → first_from s reading inbox ≡ Some a
     → (x : Payload) × IsHeard inbox s x × (reading x ≡ Some a)
-heard_from reading s inbox a is =
-    let found = given_from (if_from s reading) inbox a is in
-    let e : Received = found.0 in
-    let read = where_true (e.from == s) (reading e.payload) a found.2 in
-    let here = subst (λ o. Contains inbox (record { from = o; payload = e.payload })) (eqb-true e.from s read.0) (in_contained inbox e found.1) in
-    (e.payload, here, read.1)
+heard_from reading s inbox a is = grind (arith, common_steps, gets, given_from, where_true, in_contained)
 
 module _ (r s : ℕ) (inbox : List Received) where
   first_phase_heard : (said : FirstPhase) → first_phase_from r s inbox ≡ Some said → IsHeard inbox s (P1 r said.estimate said.lead)
@@ -112,7 +90,7 @@ module _ (inbox : List Received) (Heard : ℕ → Payload → Type 0) (heard : (
       let own = mapped (λ (said : FirstPhase). said.estimate) _ v is in
       let agreed = bound (λ m. first_phase_from r m inbox) (agreed_leader q r inbox) own.0 own.1 in
       let m : ℕ = agreed.0 in
-      let enough : q ≤ backers r m inbox = leb-true _ _ (both_true _ _ (found_passes (is_agreed q r inbox) all_processes m agreed.1)).0 in
+      let enough : q ≤ backers r m inbox = leb-true _ _ (both _ _ (found_passes (is_agreed q r inbox) all_processes m agreed.1)).0 in
       let same = count_all (λ s. names m (first_phase_from r s inbox)) in
       record {
         leader = m;

@@ -1,21 +1,18 @@
 -- Where in an inbox the first messages of each kind stand.
 use Rattle.std.specs.Prelude.{◌≡◌, ℕ, zero, suc, ◌==◌, Bool, true, false, not, List, [], ◌∷◌, Option, Some, None}
-use Rattle.std.specs.Prelude.{is_some, take, drop, nat_eq, nat_le, count_by, if◌then◌else◌}
+use Rattle.std.specs.Prelude.{is_some, take, drop, nat_eq, if◌then◌else◌}
 use Rattle.std.specs.Option.{option_map, option_flatten, unwrap_or}
 use Rattle.std.specs.List.{list_all}
 use Rattle.std.specs.HashMap.{get}
 use Rattle.cdb_base.specs.declared.payload.Payload.{Payload}
 use Rattle.cdb_base.specs.declared.payload.Payload.TheVariants.{P1, P2, D}
 use Rattle.cdb_base.specs.Positions.{nth}
-use Rattle.cdb_base.specs.Processes.{all_processes}
 use Rattle.cdb_leader.specs.declared.inbox.Received.{Received}
-use Rattle.cdb_leader.specs.declared.inbox.FirstPhase.{FirstPhase}
-use Rattle.cdb_leader.specs.declared.first_phases.FirstPhases.{FirstPhases}
 use Rattle.cdb_leader.specs.declared.firsts.Firsts.{Firsts}
 use Rattle.cdb_leader.specs.declared.spot.TheConstants.{KNOWN}
 use Rattle.cdb_leader.specs.declared.row.Row.{Row}
 use Rattle.cdb_leader.specs.declared.index.Index.{Index}
-use Rattle.cdb_leader.specs.Inbox.{first_given, if_from, names, first_phase, second_phase, as_decision}
+use Rattle.cdb_leader.specs.Inbox.{first_given, if_from, first_phase, second_phase, as_decision}
 
 -- the round of a first-phase or second-phase message
 abbrev pub message_round : Payload → Option ℕ
@@ -36,9 +33,9 @@ first_position test (x ∷ xs) = if test x then Some zero else option_map suc (f
 unfoldable pub known : List Received → List Received
 known inbox = take KNOWN inbox
 
--- those after them
-unfoldable pub later : List Received → List Received
-later inbox = drop KNOWN inbox
+-- the messages from the position that is kept on; where none is, those that the index does not know
+unfoldable pub from_kept : Option ℕ → List Received → List Received
+from_kept kept inbox = drop (unwrap_or kept KNOWN) inbox
 
 -- ---- by sender
 
@@ -63,22 +60,6 @@ reads_from s reading e = is_some (if_from s reading e)
 abbrev pub AreFirsts : {A : Type 0} → (Payload → Option A) → Firsts → List Received → Type 0
 AreFirsts reading kept inbox =
     (s : ℕ) → position_from s kept ≡ first_position (reads_from s reading) inbox
-
--- ---- the first phase of one round
-
--- the message from s
-unfoldable pub said_by : ℕ → FirstPhases → Option FirstPhase
-said_by s said = option_flatten (nth said.by_sender s)
-
--- how many senders name m as leader
-abbrev pub backers_among : ℕ → FirstPhases → ℕ
-backers_among m said = count_by (λ s. names m (said_by s said)) all_processes
-
--- the message of the least process that sent one and that at least q senders name as leader
-abbrev pub agreed_among : ℕ → FirstPhases → Option FirstPhase
-agreed_among q said =
-    first_given
-    (λ m. if nat_le q (backers_among m said) then said_by m said else None) all_processes
 
 -- ---- by round
 

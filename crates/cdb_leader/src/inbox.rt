@@ -4,12 +4,12 @@ ghost use Rattle.std.specs.Prelude.{◌≡◌, IsTrue, ◌↔◌, [], ◌∷◌,
 ghost use Rattle.std.specs.Option.{option_copied, option_and_then};
 ghost use Rattle.cdb_base.specs.Positions.{without_last};
 ghost use Rattle.cdb_base.specs.Processes.{all_processes};
-ghost use Rattle.cdb_leader.specs.Inbox.{first_phase, second_phase, first_phase_from, second_phase_from, decision_from};
-ghost use Rattle.cdb_leader.specs.Inbox.{first_phase_senders, agreed_estimate, second_phase_senders, proposal};
-ghost use Rattle.cdb_leader.specs.Inbox.{is_only_proposal, learnt};
-ghost use Rattle.cdb_leader.specs.Index.{known, later, AreFirsts, IsRowOf, said_by};
+ghost use Rattle.cdb_leader.specs.Inbox.{first_phase, second_phase, as_decision, first_phase_from, second_phase_from};
+ghost use Rattle.cdb_leader.specs.Inbox.{decision_from, first_phase_senders, backers, is_agreed, agreed_leader};
+ghost use Rattle.cdb_leader.specs.Inbox.{agreed_estimate, second_phase_senders, proposal, carries, is_only_proposal};
+ghost use Rattle.cdb_leader.specs.Inbox.{learnt};
+ghost use Rattle.cdb_leader.specs.Index.{known, from_kept, AreFirsts, IsRowOf};
 
-use crate::first_phases::FirstPhases;
 use crate::firsts::Firsts;
 use crate::index::Index;
 use crate::later;
@@ -100,6 +100,13 @@ pub(crate) fn message_at(messages: &[Received], kept: Spot) -> Option<&Received>
     messages.get(kept.position()?)
 }
 
+/// Whether a vote carries that value, if one is there.
+pub(crate) fn carries(vote: Option<Option<Val>>, value: Val) -> bool
+    ensures { result ≡ carries value vote }
+{
+    vote.is_none_or(|aux| aux == Some(value))
+}
+
 /// The messages that a process has received. A contract sees the list of them, in the order of
 /// receipt. Beside the list stands an index of its first 65,535, so that no question goes over these.
 #[derive(Drop)]
@@ -159,6 +166,13 @@ impl Inbox {
         &self.messages
     }
 
+    /// Whether the index knows every message.
+    fn knows_all(&self) -> bool
+        ensures { IsTrue result → known self.now ≡ self.now }
+    {
+        self.messages.len() <= KNOWN
+    }
+
     /// The messages that the index knows.
     fn known(&self) -> &[Received]
         ensures { result.now ≡ known self.now }
@@ -166,43 +180,38 @@ impl Inbox {
         &self.messages[..KNOWN.min(self.messages.len())]
     }
 
-    /// The messages that the index does not know.
-    fn later(&self) -> &[Received]
-        ensures { result.now ≡ later self.now }
+    /// The messages from the position on that is kept; where none is, those that the index does not know.
+    fn from(&self, kept: Spot) -> &[Received]
+        ensures { result.now ≡ from_kept kept self.now }
     {
-        &self.messages[KNOWN.min(self.messages.len())..]
+        let start = kept.position().unwrap_or(KNOWN);
+        &self.messages[start.min(self.messages.len())..]
     }
 
     /// The first-phase message of the round from that sender, by what is kept of the round.
+    #[tactic(auto, using(crate::proofs::IndexLaws::read_from))]
     fn first_phase_at(&self, kept: &Firsts, round: u32, sender: Proc) -> Option<FirstPhase>
         ensures { AreFirsts (first_phase round) kept.now (known self.now)
             → result ≡ first_phase_from round sender self.now }
     {
-        match message_at(self.known(), kept.get(sender)) {
-            Some(message) => message.first_phase(round, sender),
-            None => later::find_first_phase(self.later(), round, sender),
-        }
+        later::find_first_phase(self.from(kept.get(sender)), round, sender)
     }
 
     /// The second-phase message of the round from that sender, by what is kept of the round.
+    #[tactic(auto, using(crate::proofs::IndexLaws::read_from))]
     fn second_phase_at(&self, kept: &Firsts, round: u32, sender: Proc) -> Option<Option<Val>>
         ensures { AreFirsts (second_phase round) kept.now (known self.now)
             → result ≡ second_phase_from round sender self.now }
     {
-        match message_at(self.known(), kept.get(sender)) {
-            Some(message) => message.second_phase(round, sender),
-            None => later::find_second_phase(self.later(), round, sender),
-        }
+        later::find_second_phase(self.from(kept.get(sender)), round, sender)
     }
 
     /// The first decision of that sender.
+    #[tactic(auto, using(crate::proofs::IndexLaws::read_from))]
     fn find_decision(&self, sender: Proc) -> Option<Val>
         ensures { result ≡ decision_from sender self.now }
     {
-        match message_at(self.known(), self.index.decision(sender)) {
-            Some(message) => message.decision(sender),
-            None => later::find_decision(self.later(), sender),
-        }
+        later::find_decision(self.from(self.decisions().get(sender)), sender)
     }
 
     /// Where the first messages of that round stand.
@@ -212,32 +221,32 @@ impl Inbox {
         self.index.row(round)
     }
 
+    /// Where the first decisions stand.
+    fn decisions(&self) -> &Firsts
+        ensures { AreFirsts as_decision result.now (known self.now) }
+    {
+        &self.index.decisions
+    }
+
     /// Whether a first-phase message of that round came from that sender.
     pub(crate) fn has_first_phase(&self, round: u32, sender: Proc) -> bool
         ensures { result ≡ is_some (first_phase_from round sender self.now) }
     {
-        self.row(round).first_phases.get(sender).is_kept()
-            || later::find_first_phase(self.later(), round, sender).is_some()
-    }
-
-    /// Whether a second-phase message of that round came from that sender.
-    fn has_second_phase(&self, round: u32, sender: Proc) -> bool
-        ensures { result ≡ is_some (second_phase_from round sender self.now) }
-    {
-        self.row(round).second_phases.get(sender).is_kept()
-            || later::find_second_phase(self.later(), round, sender).is_some()
+        self.first_phase_at(&self.row(round).first_phases, round, sender)
+            .is_some()
     }
 
     /// From how many different senders a first-phase message of that round came.
     pub(crate) fn count_first_phase(&self, round: u32) -> usize
         ensures { result ≡ first_phase_senders round self.now }
     {
-        if self.later().is_empty() {
+        if self.knows_all() {
             return self.row(round).first_phases.count();
         }
+        let kept = &self.row(round).first_phases;
         Proc::all()
             .iter()
-            .filter(|sender| self.has_first_phase(round, **sender))
+            .filter(|sender| self.first_phase_at(kept, round, **sender).is_some())
             .count()
     }
 
@@ -245,32 +254,60 @@ impl Inbox {
     pub(crate) fn count_second_phase(&self, round: u32) -> usize
         ensures { result ≡ second_phase_senders round self.now }
     {
-        if self.later().is_empty() {
+        if self.knows_all() {
             return self.row(round).second_phases.count();
         }
+        let kept = &self.row(round).second_phases;
         Proc::all()
             .iter()
-            .filter(|sender| self.has_second_phase(round, **sender))
+            .filter(|sender| self.second_phase_at(kept, round, **sender).is_some())
             .count()
     }
 
-    /// The first-phase message of that round from each sender.
-    fn first_phases(&self, round: u32) -> FirstPhases
-        ensures { All (λ s. said_by s result ≡ first_phase_from round s self.now) all_processes }
+    /// How many senders name that process as leader in the round, by what is kept of the round.
+    fn count_backers(&self, kept: &Firsts, round: u32, leader: Proc) -> usize
+        requires { AreFirsts (first_phase round) kept.now (known self.now) }
+        ensures { result ≡ backers round leader self.now }
     {
-        let kept = &self.row(round).first_phases;
-        FirstPhases {
-            by_sender: Proc::all().map(|sender| self.first_phase_at(kept, round, sender)),
-        }
+        Proc::all()
+            .iter()
+            .filter(|sender| {
+                self.first_phase_at(kept, round, **sender)
+                    .is_some_and(|said| said.lead == leader)
+            })
+            .count()
     }
 
-    /// The estimate of the least process that at least `quorum` senders name as leader in that round,
-    /// and whose own first-phase message came.
+    /// Whether at least `quorum` senders do, and its own first-phase message came.
+    fn is_agreed(&self, kept: &Firsts, round: u32, quorum: u8, leader: Proc) -> bool
+        requires { AreFirsts (first_phase round) kept.now (known self.now) }
+        ensures { result ≡ is_agreed quorum round self.now leader }
+    {
+        usize::from(quorum) <= self.count_backers(kept, round, leader)
+            && self.first_phase_at(kept, round, leader).is_some()
+    }
+
+    /// The least process that at least `quorum` senders name as leader in that round, and whose own first-phase message
+    /// came.
+    pub(crate) fn find_agreed_leader(&self, round: u32, quorum: u8) -> Option<Proc>
+        ensures { result ≡ agreed_leader quorum round self.now }
+    {
+        let kept = &self.row(round).first_phases;
+        for leader in Proc::all() {
+            if self.is_agreed(kept, round, quorum, leader) {
+                return Some(leader);
+            }
+        }
+        None
+    }
+
+    /// The estimate of that process.
     pub(crate) fn find_agreed_estimate(&self, round: u32, quorum: u8) -> Option<Val>
         ensures { result ≡ agreed_estimate quorum round self.now }
     {
-        let said = self.first_phases(round);
-        said.find_agreed(quorum).map(|own| own.estimate)
+        let leader = self.find_agreed_leader(round, quorum)?;
+        let own = self.first_phase_at(&self.row(round).first_phases, round, leader)?;
+        Some(own.estimate)
     }
 
     /// The value in the second-phase message of that round from the least sender whose message has
@@ -292,17 +329,15 @@ impl Inbox {
         ensures { result ≡ is_only_proposal round value (known self.now) }
     {
         let row = self.row(round);
-        match row.find_vote(round, self.known()) {
-            Some(aux) => aux == Some(value) && !row.has_other_vote(),
-            None => true,
-        }
+        carries(row.find_vote(round, self.known()), value) && !row.has_other_vote()
     }
 
     /// Whether every second-phase message of that round carries the value.
     pub(crate) fn all_propose(&self, round: u32, value: Val) -> bool
         ensures { result ≡ is_only_proposal round value self.now }
     {
-        self.known_propose(round, value) && later::all_propose(self.later(), round, value)
+        self.known_propose(round, value)
+            && later::all_propose(self.from(Spot::empty()), round, value)
     }
 
     /// The first decision of the least sender that sent one, where one may have come.
@@ -320,10 +355,11 @@ impl Inbox {
     }
 
     /// The first decision of the least sender that sent one.
+    #[tactic(auto, using(crate::proofs::IndexLaws::no_decision))]
     pub(crate) fn find_learnt(&self) -> Option<Val>
         ensures { result ≡ learnt self.now }
     {
-        if self.index.has_no_decision() && self.later().is_empty() {
+        if self.decisions().is_empty() && self.knows_all() {
             return None;
         }
         self.look_for_learnt()

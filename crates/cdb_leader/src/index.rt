@@ -3,12 +3,12 @@
 
 ghost use Rattle.std.specs.Prelude.{◌≡◌, ◌<◌, length, List, [], ◌∷◌, ◌++◌, OnOk, OnErr};
 ghost use Rattle.cdb_leader.specs.declared.inbox.Received.{Received};
-ghost use Rattle.cdb_leader.specs.Index.{position_from, keeps_none, known, IsRowOf, IsIndexOf};
+ghost use Rattle.cdb_leader.specs.Index.{known, IsRowOf, IsIndexOf};
 
 use crate::firsts::Firsts;
 use crate::inbox::Received;
 use crate::row::Row;
-use crate::spot::{KNOWN, Spot};
+use crate::spot::KNOWN;
 use cdb_base::{NoMemory, Proc};
 use std::alloc::Global;
 use std::collections::HashMap;
@@ -18,7 +18,7 @@ use std::collections::HashMap;
 #[derive(Drop)]
 pub struct Index {
     rows: HashMap<u32, Row>,
-    decisions: Firsts,
+    pub(crate) decisions: Firsts,
     no_row: Row,
 }
 
@@ -43,20 +43,6 @@ impl Index {
             Some(row) => row,
             None => &self.no_row,
         }
-    }
-
-    /// Whether no decision stands anywhere.
-    pub(crate) fn has_no_decision(&self) -> bool
-        ensures { result ≡ keeps_none self.now.decisions }
-    {
-        self.decisions.is_empty()
-    }
-
-    /// Where the decision of that sender stands.
-    pub(crate) fn decision(&self, sender: Proc) -> Spot
-        ensures { result ≡ position_from sender self.now.decisions }
-    {
-        self.decisions.get(sender)
     }
 
     /// Notes the message that comes after those, which are few enough that the index knows it.

@@ -3,7 +3,7 @@
 ghost use Rattle.std.specs.Prelude.{◌≡◌};
 ghost use Rattle.cdb_leader.specs.Inbox.{first_phase_from, second_phase_from, decision_from, is_only_proposal};
 
-use crate::inbox::{FirstPhase, Received};
+use crate::inbox::{FirstPhase, Received, carries};
 use cdb_base::{Proc, Val};
 
 /// The first-phase message of that round from that sender.
@@ -46,10 +46,7 @@ pub fn find_decision(messages: &[Received], sender: Proc) -> Option<Val>
 pub(crate) fn all_propose(messages: &[Received], round: u32, value: Val) -> bool
     ensures { result ≡ is_only_proposal round value messages.now }
 {
-    for message in messages {
-        if message.vote(round).is_some_and(|aux| aux != Some(value)) {
-            return false;
-        }
-    }
-    true
+    messages
+        .iter()
+        .all(|message| carries(message.vote(round), value))
 }

@@ -10,6 +10,7 @@ ghost use Rattle.cdb_process.specs.Values.{MakesNoValue};
 /// A process sends one first-phase and one second-phase message a round. Its estimate of a later round rests on
 /// the votes of the round before, its vote with a value on a quorum that named one leader, and its decision on a
 /// quorum of votes with that value, or on a decision that it received.
+#[tactic(auto, using(crate::proofs::Promised::sent_messages_are_founded))]
 pub fn sent_messages_are_founded()
     ensures { SentMessagesAreFounded }
 {}
@@ -22,6 +23,7 @@ pub fn received_messages_are_brought()
 /// A process makes no value of its own: what it holds as estimate, aux or decision or in its inbox, it
 /// held before, or a message brought it; before its first step it holds its input alone, and it sends
 /// and decides what it holds.
+#[tactic(auto, using(crate::proofs::Promised::no_value_is_made))]
 pub fn no_value_is_made()
     ensures { MakesNoValue leader_table HoldsValue }
 {}

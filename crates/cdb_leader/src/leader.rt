@@ -50,7 +50,7 @@ impl Leader {
     ghost use Rattle.cdb_leader.specs.Table.{heard_first_phase, heard_second_phase, heard_lead, set_aux, end_round};
     ghost use Rattle.cdb_leader.specs.Table.{query_at, payload_at, send_at, local_at, learn_at, recv_at};
     ghost use Rattle.cdb_leader.specs.Place.{is_last};
-    ghost use Rattle.cdb_leader.specs.Inbox.{proposal};
+    ghost use Rattle.cdb_leader.specs.Inbox.{agreed_leader, is_only_proposal, proposal};
     ghost use Rattle.cdb_leader.specs.Back.{state_before};
 
     /// Where the process stands in its round.
@@ -107,6 +107,21 @@ impl Leader {
         ensures { result ≡ heard_second_phase self.now }
     {
         usize::from(self.quorum) <= self.inbox.count_second_phase(self.round)
+    }
+
+    /// The least process that a quorum of the senders names as leader in the round, and whose own first-phase message
+    /// came.
+    pub fn agreed_leader(&self) -> Option<Proc>
+        ensures { result ≡ agreed_leader self.now.quorum self.now.round self.now.inbox }
+    {
+        self.inbox.find_agreed_leader(self.round, self.quorum)
+    }
+
+    /// Whether every second-phase message of the round carries the value.
+    pub fn all_propose(&self, proposed: Val) -> bool
+        ensures { result ≡ is_only_proposal self.now.round proposed self.now.inbox }
+    {
+        self.inbox.all_propose(self.round, proposed)
     }
 
     /// Whether the first phase of the round came from the process that the oracle named.
@@ -171,26 +186,6 @@ impl Leader {
         }
     }
 
-    fn is_as_far(&self, other: &Self) -> bool
-        ensures { IsTrue result ↔ ((self.now.quorum ≡ other.now.quorum)
-            × (self.now.place ≡ other.now.place)
-            × (self.now.round ≡ other.now.round)
-            × (self.now.estimate ≡ other.now.estimate)) }
-    {
-        self.quorum == other.quorum
-            && self.place == other.place
-            && self.round == other.round
-            && self.estimate == other.estimate
-    }
-
-    fn has_same_outcome(&self, other: &Self) -> bool
-        ensures { IsTrue result ↔ ((self.now.lead ≡ other.now.lead)
-            × (self.now.aux ≡ other.now.aux)
-            × (self.now.decision ≡ other.now.decision)) }
-    {
-        self.lead == other.lead && self.aux == other.aux && self.decision == other.decision
-    }
-
     /// Begins a round, of which the oracle named the leader.
     fn begin_round(&mut self, leader: Proc) -> Back
         requires place { self.old.place ≡ Place.L0 }
@@ -198,17 +193,15 @@ impl Leader {
         ensures after { query_at Place.L0 self.old leader ≡ Some self.new }
         ensures back { state_before self.new result ≡ self.old }
     {
-        let back = Back {
-            before: Before::Round {
-                place: self.place,
-                lead: self.lead,
-                round: self.round,
-            },
+        let before = Before::Round {
+            place: self.place,
+            lead: self.lead,
+            round: self.round,
         };
         self.round += 1;
         self.lead = Some(leader);
         self.place = Place::L1;
-        back
+        Back { before }
     }
 
     /// Ends the first phase.
@@ -217,12 +210,10 @@ impl Leader {
         ensures after { self.new ≡ set_aux self.old }
         ensures back { state_before self.new result ≡ self.old }
     {
-        let back = Back {
-            before: Before::Aux(self.place, self.aux),
-        };
+        let before = Before::Aux(self.place, self.aux);
         self.aux = self.inbox.find_agreed_estimate(self.round, self.quorum);
         self.place = Place::L3;
-        back
+        Back { before }
     }
 
     /// Ends the second phase.
@@ -231,9 +222,7 @@ impl Leader {
         ensures after { self.new ≡ end_round self.old (proposal self.old.round self.old.inbox) }
         ensures back { state_before self.new result ≡ self.old }
     {
-        let back = Back {
-            before: Before::Estimate(self.place, self.estimate),
-        };
+        let before = Before::Estimate(self.place, self.estimate);
         self.place = Place::L0;
         if let Some(value) = self.inbox.find_proposal(self.round) {
             if self.inbox.all_propose(self.round, value) {
@@ -241,7 +230,7 @@ impl Leader {
             }
             self.estimate = value;
         }
-        back
+        Back { before }
     }
 
     /// Takes the answer to a query.
@@ -271,9 +260,7 @@ impl Leader {
         ensures after { send_at self.old.place self.old ≡ Some self.new }
         ensures back { state_before self.new result ≡ self.old }
     {
-        let back = Back {
-            before: Before::Place(self.place),
-        };
+        let before = Before::Place(self.place);
         match self.place {
             Place::L1 => self.place = Place::L2,
             Place::L3 => self.place = Place::L4,
@@ -283,7 +270,7 @@ impl Leader {
             }
             _ => unreachable!(),
         }
-        back
+        Back { before }
     }
 
     /// Goes on by itself.
@@ -305,14 +292,12 @@ impl Leader {
         ensures after { learn_at self.old.place self.old ≡ Some self.new }
         ensures back { state_before self.new result ≡ self.old }
     {
-        let back = Back {
-            before: Before::Estimate(self.place, self.estimate),
-        };
+        let before = Before::Estimate(self.place, self.estimate);
         if let Some(value) = self.inbox.find_learnt() {
             self.estimate = value;
             self.place = Place::L5;
         }
-        back
+        Back { before }
     }
 
     /// Adds a message to the inbox.
@@ -341,17 +326,7 @@ impl Process for Leader {
 
     ghost before = { state_before };
 
-    ghost query_by_state = { laws.next_state-query };
-
-    ghost recv_by_state = { laws.next_state-recv };
-
-    ghost wish_send = { laws.wish_of-send };
-
-    ghost wish_read = { laws.wish_of-read };
-
-    ghost wish_write = { laws.wish_of-write };
-
-    ghost wish_local = { laws.wish_of-local };
+    ghost lawful = { laws.lawful };
 
     fn first(alloc: Global, _me: Proc, _n: u8, q: u8, input: Val) -> Result<Self, NoMemory> {
         Ok(Leader {
@@ -439,6 +414,13 @@ impl Process for Leader {
 
 impl SameState for Leader {
     fn has_same_state(&self, other: &Self) -> bool {
-        self.is_as_far(other) && self.has_same_outcome(other) && self.inbox.is_same(&other.inbox)
+        self.quorum == other.quorum
+            && self.place == other.place
+            && self.round == other.round
+            && self.estimate == other.estimate
+            && self.lead == other.lead
+            && self.aux == other.aux
+            && self.inbox.is_same(&other.inbox)
+            && self.decision == other.decision
     }
 }

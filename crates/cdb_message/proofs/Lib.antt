@@ -1,11 +1,9 @@
-pub mod AllOf
-pub mod WatermarkLaws
 pub mod Closed
 pub mod Tables
-pub mod PendingFound
 pub mod Sets
 pub mod TakenBack
 pub mod Sent
 pub mod RisingNumbers
 pub mod Least
-pub mod Changed
+pub mod MailFlags
+pub mod Stretches

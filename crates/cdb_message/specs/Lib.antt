@@ -4,6 +4,5 @@ pub mod Mail
 -- what the code keeps for itself: codes of the views, and how it finds a pending copy quickly
 pub mod Codes
 pub mod Flags
-pub mod Watermarks
 pub mod Passed
 pub mod Search

@@ -1,18 +1,17 @@
--- The look for a pending copy among the messages of one sender.
-use Rattle.std.specs.Prelude.{◌≡◌, ℕ, ◌+◌, ◌-◌, false, nat_le, length, List, map, filter, find, Option}
-use Rattle.std.specs.List.{range_with_len}
+-- The look for a pending copy.
+use Rattle.std.specs.Prelude.{◌≡◌, ℕ, false, nat_le, IsTrue, Option, None, Some}
 use Rattle.cdb_base.specs.declared.name.MsgName.{MsgName}
-use Rattle.cdb_message.specs.Mail.{MailState, message_name, sent_by, messages_of, is_open, is_above}
+use Rattle.cdb_message.specs.Mail.{MailState, message_name, IsPending, is_above}
+use Rattle.cdb_message.specs.Names.{is_name_below}
 
--- the first pending message of s above `after`
-abbrev pub first_of_sender : MailState → ℕ → ℕ → Option MsgName → Option MsgName
-first_of_sender mail p s after =
-    find (is_above after) (filter (is_open mail p) (messages_of mail s))
+-- the least of those names, where there is one
+abbrev pub IsLeastOf : (MsgName → Type 0) → Option MsgName → Type 0
+IsLeastOf Among None = (name : MsgName) → Among name → ⊥
+IsLeastOf Among (Some name) = Among name × ((other : MsgName) → Among other → is_name_below other name ≡ false)
 
--- the names of the messages that process s sent, from the number `low` on
-abbrev pub messages_from : MailState → ℕ → ℕ → List MsgName
-messages_from mail s low =
-    map (message_name s) (range_with_len low (length (sent_by mail s) + 1 - low))
+-- the message is pending for p, and stands above `after`
+abbrev pub IsNext : MailState → ℕ → Option MsgName → MsgName → Type 0
+IsNext mail p after name = IsPending mail p name × IsTrue (is_above after name)
 
 -- the names of s that stand above the other name are those from the number `low` on
 abbrev pub IsLowestAbove : Option MsgName → ℕ → ℕ → Type 0

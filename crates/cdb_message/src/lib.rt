@@ -8,11 +8,9 @@
 //! ```
 #![tactic(auto)]
 
-mod copies;
 mod flags;
 pub mod mail;
-mod names;
 mod outbox;
-mod watermarks;
+mod passed;
 
 pub use mail::Mail;

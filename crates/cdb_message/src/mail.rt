@@ -1,14 +1,13 @@
 //! The messages of a run.
 
-ghost use Rattle.std.specs.Prelude.{◌≡◌, ◌<◌, ◌≤◌, length, false, IsTrue, find};
+ghost use Rattle.std.specs.Prelude.{◌≡◌, ◌<◌, ◌≤◌, length, false, IsTrue};
 ghost use Rattle.std.specs.Prelude.{IfOk, OnOk, OnErr, IfSome, IfNone, MatchOption};
 ghost use Rattle.std.specs.Option.{option_copied};
 ghost use Rattle.cdb_message.specs.Search.{IsLowestAbove, HasNoneAbove};
 
-use crate::copies::Copies;
-use crate::names::Names;
+use crate::flags::{cell_of_copy, cell_of_name, clear, is_set, set};
 use crate::outbox::Outbox;
-use crate::watermarks::Passed;
+use crate::passed::Passed;
 use cdb_base::{CopyName, MsgName, NoMemory, Payload, Proc};
 use std::alloc::Global;
 use std::marker::Model;
@@ -21,36 +20,26 @@ use std::marker::Model;
 #[derive(Drop)]
 pub struct Mail {
     sent: Vec<Outbox>,
-    received: Vec<Names>,
-    lost: Copies,
+    // For each process a flag for each name, and one for each copy.
+    received: Vec<Vec<bool>>,
+    lost: Vec<bool>,
     // What the look for a pending copy passes over: copies that were received or lost.
     passed: Passed,
 }
 
 impl Model for Mail {
-    ghost use Rattle.std.specs.Prelude.{◌≡◌, ◌≤◌, length};
-    ghost use Rattle.cdb_base.specs.Limits.{MAX_PROCESSES};
     ghost use Rattle.cdb_message.specs.Codes.{mail_code};
+    ghost use Rattle.cdb_message.specs.Flags.{mail_in};
     ghost use Rattle.cdb_message.specs.Mail.{MailState};
-    ghost use Rattle.cdb_message.specs.Passed.{AreClosed};
+    ghost use Rattle.cdb_message.specs.Passed.{IsSound};
 
     ghost Value = { MailState };
 
     ghost coded = { mail_code };
 
-    ghost view = { λ x. record {
-      sent = x.sent.items;
-      received = x.received.items;
-      lost = x.lost;
-    } };
+    ghost view = { λ x. mail_in x.sent.items x.received.items x.lost.items };
 
-    ghost invariant = { λ x. (length x.sent.items ≡ length x.received.items)
-        × (length x.sent.items ≤ MAX_PROCESSES)
-        × AreClosed x.passed (record {
-          sent = x.sent.items;
-          received = x.received.items;
-          lost = x.lost;
-        }) };
+    ghost invariant = { λ x. IsSound x.passed (mail_in x.sent.items x.received.items x.lost.items) };
 }
 
 impl Mail {
@@ -63,9 +52,9 @@ impl Mail {
     ghost use Rattle.cdb_message.specs.Mail.{add_send, add_receive, add_loss};
     ghost use Rattle.cdb_message.specs.Mail.{remove_send, remove_receive, remove_loss};
     ghost use Rattle.cdb_message.specs.Mail.{TakesBackSend, TakesBackReceive, TakesBackLoss};
-    ghost use Rattle.cdb_message.specs.Mail.{next_pending, HasNonePending, IsLeastPending};
-    ghost use Rattle.cdb_message.specs.Watermarks.{HasNoneOpen};
-    ghost use Rattle.cdb_message.specs.Search.{first_of_sender, messages_from};
+    ghost use Rattle.cdb_message.specs.Mail.{next_pending, IsPending, HasNonePending, IsLeastPending};
+    ghost use Rattle.cdb_message.specs.Passed.{HasNoneOpen};
+    ghost use Rattle.cdb_message.specs.Search.{IsLeastOf, IsNext};
 
     /// The mail of `n` processes, at most 9, none of which has sent or received anything. `NoMemory` if
     /// an allocation fails.
@@ -77,9 +66,9 @@ impl Mail {
         let mut received = Vec::new(alloc);
         for _ in 0..n {
             sent.push(Outbox::new(alloc))?;
-            received.push(Names::new(alloc))?;
+            received.push(Vec::new(alloc))?;
         }
-        let lost = Copies::new(alloc);
+        let lost = Vec::new(alloc);
         let passed = Passed::new();
         Ok(Mail {
             sent,
@@ -131,8 +120,7 @@ impl Mail {
         ensures err { OnErr result (self.new ≡ self.old) }
     {
         let sender = name.s;
-        let names = &mut self.received[p.index()];
-        names.insert(name)?;
+        set(&mut self.received[p.index()], cell_of_name(name))?;
         self.pass_over(p, sender);
         Ok(())
     }
@@ -145,8 +133,7 @@ impl Mail {
         ensures undoes { TakesBackReceive self.old p name self.new }
     {
         self.passed.leave_out(p, name.s, name.m);
-        let names = &mut self.received[p.index()];
-        names.remove(name);
+        clear(&mut self.received[p.index()], cell_of_name(name));
     }
 
     /// The copy of a message for process `p` gets lost: it was sent, and `p` has not received it, nor
@@ -160,7 +147,7 @@ impl Mail {
         ensures err { OnErr result (self.new ≡ self.old) }
     {
         let sender = name.s;
-        self.lost.insert(CopyName { msg: name, to: p })?;
+        set(&mut self.lost, cell_of_copy(CopyName { msg: name, to: p }))?;
         self.pass_over(p, sender);
         Ok(())
     }
@@ -172,7 +159,7 @@ impl Mail {
         ensures undoes { TakesBackLoss self.old (copy_name name p) self.new }
     {
         self.passed.leave_out(p, name.s, name.m);
-        self.lost.remove(CopyName { msg: name, to: p });
+        clear(&mut self.lost, cell_of_copy(CopyName { msg: name, to: p }));
     }
 
     /// The payload of the message of that name, if it was sent.
@@ -225,15 +212,14 @@ impl Mail {
         requires { p ≤ length self.now.received }
         ensures { result ≡ is_received self.now p name }
     {
-        let names = &self.received[p.index()];
-        names.contains(name)
+        is_set(&self.received[p.index()], cell_of_name(name))
     }
 
     /// Whether the copy of that message for process `p` is lost.
     pub fn lost(&self, p: Proc, name: MsgName) -> bool
         ensures { result ≡ is_lost self.now (copy_name name p) }
     {
-        self.lost.contains(CopyName { msg: name, to: p })
+        is_set(&self.lost, cell_of_copy(CopyName { msg: name, to: p }))
     }
 
     /// The least name above `after`, by sender and number, of a message that was sent and whose copy
@@ -245,11 +231,9 @@ impl Mail {
         ensures least { MatchOption result (HasNonePending self.now p after)
             (IsLeastPending self.now p after) }
     {
-        // There are at most 9 processes, which the proof reads here.
-        let _processes = &self.sent;
-        for sender in Proc::all() {
+        for s in 1..self.sent.len() + 1 {
             let above = after;
-            if let Some(name) = self.pending_from(p, sender, above) {
+            if let Some(name) = self.pending_from(p, Proc::new(s as u8), above) {
                 return Some(name);
             }
         }
@@ -259,10 +243,10 @@ impl Mail {
     /// The least such name of the sender `s`.
     fn pending_from(&self, p: Proc, s: Proc, after: Option<MsgName>) -> Option<MsgName>
         requires among { p ≤ length self.now.received }
-        ensures { result ≡ first_of_sender self.now p s after }
+        ensures { IsLeastOf (λ name. (name.s ≡ s) × IsNext self.now p after name) result }
     {
         let low = lowest_above(after, s)?;
-        let behind = u32::from(self.watermark(p, s)) + 1;
+        let behind = u32::from(self.passed.watermark(p, s)) + 1;
         self.first_open(p, s, low.max(behind))
     }
 
@@ -271,7 +255,7 @@ impl Mail {
     fn first_open(&self, p: Proc, s: Proc, low: u32) -> Option<MsgName>
         requires among { p ≤ length self.now.received }
         requires from_one { 1 ≤ low }
-        ensures { result ≡ find (is_open self.now p) (messages_from self.now s low) }
+        ensures { IsLeastOf (λ name. (name.s ≡ s) × (low ≤ name.m) × IsPending self.now p name) result }
     {
         for m in low..u32::from(self.count_sent(s)) + 1 {
             let name = MsgName { s, m: m as u16 };
@@ -282,31 +266,16 @@ impl Mail {
         None
     }
 
-    /// A number up to which process `p` has received or lost each message of `s`.
-    fn watermark(&self, p: Proc, s: Proc) -> u16
-        ensures { HasNoneOpen self.now p s result }
-    {
-        self.passed.watermark(p, s)
-    }
-
-    /// A number at least as high as the one given, up to which `p` has received or lost each message of `s` too.
-    fn behind(&self, p: Proc, s: Proc, number: u16) -> u16
-        requires { HasNoneOpen self.now p s number }
-        ensures from { number ≤ result }
-        ensures closed { HasNoneOpen self.now p s result }
-    {
-        self.passed.behind(p, s, number)
-    }
-
-    /// The greatest number of that kind, among the messages that were sent.
+    /// The greatest number, among the messages that were sent, up to which process `p` has received or lost each
+    /// message of `s`.
     fn highest_watermark(&self, p: Proc, s: Proc) -> u16
         requires among { p ≤ length self.now.received }
         ensures { HasNoneOpen self.now p s result }
     {
         let count = self.count_sent(s);
-        let mut mark = self.watermark(p, s);
+        let mut mark = self.passed.watermark(p, s);
         while mark < count && !self.is_open(p, MsgName { s, m: mark + 1 }) {
-            mark = self.behind(p, s, mark + 1);
+            mark = self.passed.behind(p, s, mark + 1);
         }
         mark
     }

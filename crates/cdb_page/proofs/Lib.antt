@@ -1,5 +1,4 @@
 pub mod OnAndOn
-mod TooMany
 pub mod ListItems
 pub mod PageSteps
 pub mod PageTrace

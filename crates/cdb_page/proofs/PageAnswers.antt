@@ -2,7 +2,7 @@
 use Rattle.std.proofs.Common.{ℕ, Option, Some, None, refl, ap}
 use Rattle.cdb_base.specs.Event.{event_name}
 use Rattle.cdb_base.specs.declared.event.Event.{Event}
-use Rattle.cdb_rules.proofs.AllStanding.{free_undone, needed_refused}
+use Rattle.cdb_rules.proofs.Undo.{free_undone, needed_refused}
 use Rattle.cdb_rules.specs.RunView.{RunView}
 use Rattle.cdb_rules.specs.Undo.{IsEventNamed, result_alone}
 use Rattle.cdb_page.specs.Followed.{AnswersUndo}

@@ -5,8 +5,7 @@ use Rattle.std.proofs.lemmas.Grind.{common_steps}
 use Rattle.std.proofs.lemmas.Option.{gets, none-some, slice_get_cases, slice_get_within}
 use Rattle.cdb_base.specs.Positions.{nth}
 use Rattle.cdb_base.specs.declared.event.Event.{Event}
-use Rattle.cdb_causal.proofs.Chains.{later_consequence}
-use Rattle.cdb_causal.proofs.PastLaws.{by_direct_causes, linked_past, turned_round}
+use Rattle.cdb_causal.proofs.PastLaws.{by_causes, linked_past, turned_round}
 use Rattle.cdb_causal.specs.Causality.{IsDirectCause, direct, onward}
 use Rattle.cdb_causal.specs.Dependence.{depends}
 use Rattle.cdb_causal.specs.Past.{HasLedTo}
@@ -41,24 +40,6 @@ module _ (InSet : ℕ → Type 0) where
         λ here. let (is, low, high) = its.0 (contained_in found i here) in (is, low, omega (arith, high)),
         λ (is, low, high). in_contained found i (its.1 (is, low, omega (arith, high))),
       )
-
--- ---- what led to an event, by direct causes
-
--- what holds of an event, and with each of that of its direct causes, holds of all that has led to it
-module _ (history : List Event) (at : ℕ) (Holds : ℕ → Type 0) (here : Holds at)
-    (before : (i j : ℕ) → IsDirectCause depends history i j → Holds j → Holds i) where
-  down : (n other : ℕ) → at ≤ other + n → HasLedTo depends history at other → Holds other
-  down n other few (inl same) = rw same here
-  down zero other few (inr past) =
-      let later = later_consequence depends history other ((turned_round depends history other at).0 past) in
-      absurd (omega (arith, few, later))
-  down (suc n) other few (inr past) =
-      let (k, cause, led) = (by_direct_causes depends history other at).0 past in
-      let later = cause.link.later in
-      before other k cause (down n k (omega (arith, few, later)) led)
-
-  pub by_causes : (other : ℕ) → HasLedTo depends history at other → Holds other
-  by_causes other = down at other (omega arith)
 
 -- ---- the entries
 
@@ -108,7 +89,7 @@ module _ (run : RunView) (entries : List Entry) (are : AreEntries run entries) w
   pub causes_are_the_past : (at other : ℕ) → IsReached its_causes entries at other ↔ HasLedTo depends history at other
   causes_are_the_past at other = (
     led at other,
-    by_causes history at (IsReached its_causes entries at) itself
+    by_causes depends history at (IsReached its_causes entries at) itself
         (λ i j cause reached. let (entry, is) = has_entry j cause.link.effect cause.link.at_effect in further reached is ((its_cause j entry is i).1 cause))
         other,
   )
@@ -129,7 +110,7 @@ module _ (run : RunView) (entries : List Entry) (are : AreEntries run entries) w
 
   onto : (at other : ℕ) → HasLedTo depends history other at → IsReached its_dependents entries at other
   onto at other =
-      by_causes history other (λ it. IsReached its_dependents entries it other) itself
+      by_causes depends history other (λ it. IsReached its_dependents entries it other) itself
       (λ i j cause reached.
       let (entry, is) = has_entry i cause.link.cause cause.link.at_cause in
       joined i j other (further itself is ((its_dependent i entry is j).1 cause)) reached)

@@ -2,7 +2,6 @@
 pub mod Listed
 pub mod Entries
 pub mod Pages
-pub mod Written
 pub mod OfJournals
 pub mod Live
 pub mod Followed

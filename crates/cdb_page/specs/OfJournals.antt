@@ -12,7 +12,7 @@ use Rattle.cdb_rules.specs.RunView.{RunView}
 use Rattle.cdb_session.specs.Debugs.{IsFaultOfBeginning}
 use Rattle.cdb_setup.specs.Format.{Encodes}
 use Rattle.cdb_setup.specs.Parts.{Parts}
-use Rattle.cdb_page.specs.Written.{IsPageOfFew}
+use Rattle.cdb_page.specs.Pages.{IsPageOfFew}
 use Rattle.cdb_page.specs.declared.parts.Refresh.TheVariants.{EachTwoSeconds}
 
 -- the run is the one that the journal leaves on the setup that a text of JSON encodes, played with 64 seats

@@ -1,7 +1,8 @@
 -- The page of a run, as text: an HTML document.
-use Rattle.std.specs.Prelude.{◌≡◌, ℕ, List, [], ◌++◌, codes, decimal, Option, None, Some, unwrap_or}
+use Rattle.std.specs.Prelude.{◌≡◌, ℕ, ◌≤◌, length, List, [], ◌++◌, codes, decimal, Option, None, Some, unwrap_or}
 use Rattle.std.specs.List.{flat_map}
 use Rattle.cdb_agreement.specs.Algorithms.{rules}
+use Rattle.cdb_draw.specs.Limits.{MOST_DRAWN}
 use Rattle.cdb_draw.specs.Picture.{IsPicture}
 use Rattle.cdb_base.specs.Limits.{COLUMNS}
 use Rattle.cdb_rules.specs.RunView.{RunView}
@@ -63,3 +64,7 @@ IsPage refresh run text =
     (picture : List ℕ) × IsPicture rules run COLUMNS None picture
     × (entries : List Entry) × AreEntries run entries
     × (text ≡ page_text refresh picture entries)
+
+-- the same, of a run which has no more events than are drawn
+abbrev pub IsPageOfFew : Refresh → RunView → List ℕ → Type 0
+IsPageOfFew refresh run text = (length run.history ≤ MOST_DRAWN) × IsPage refresh run text

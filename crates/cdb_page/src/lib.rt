@@ -2,7 +2,7 @@
 //! event. The functions of `laws` do nothing: the contract of each is the law.
 //!
 //! ```text
-//! write_page(alloc, setup, &mut script, &mut output)?;
+//! let text = page_of_few(alloc, &run, Refresh::Never)?;
 //! ```
 #![tactic(auto)]
 
@@ -13,7 +13,6 @@ mod live;
 mod page;
 pub mod parts;
 mod text;
-mod writes;
 
 pub use live::{LivePage, Rewritten};
-pub use writes::write_page;
+pub use page::page_of_few;

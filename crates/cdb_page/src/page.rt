@@ -3,8 +3,9 @@
 ghost use Rattle.std.specs.Prelude.{◌≡◌, ◌≤◌, ◌++◌, length, IfErr, IfOk};
 ghost use Rattle.cdb_agreement.specs.Algorithms.{rules};
 ghost use Rattle.cdb_base.specs.Limits.{MAX_ENTRIES as most_entries};
-ghost use Rattle.cdb_page.specs.Pages.{IsPage, refresh_text};
-ghost use Rattle.cdb_page.specs.Written.{IsFaultOfFew, IsPageOfFew};
+ghost use Rattle.cdb_draw.specs.Drawn.{IsCrowded};
+ghost use Rattle.cdb_explain.specs.TextFaults.{IsFaultOfText};
+ghost use Rattle.cdb_page.specs.Pages.{IsPage, IsPageOfFew, refresh_text};
 ghost use Rattle.cdb_page.specs.declared.parts.TheConstants.{CONTROLS as controls, HEAD as head};
 ghost use Rattle.cdb_page.specs.declared.parts.TheConstants.{LOOKS as looks, SCRIPT as script};
 ghost use Rattle.cdb_rules.specs.ByRules.{IsInOrder};
@@ -53,19 +54,23 @@ fn page_of(alloc: Global, run: &Trace, refresh: Refresh) -> Result<Vec<u8>, NoMe
     joined(alloc, refresh, picture.as_slice(), text.as_slice())
 }
 
-/// The page of a run.
+/// The page of a run of at most 999,999 events: a document that a browser opens from where it lies, which loads
+/// nothing. It has the picture of the run, as `draw` draws it, and of each event, for its script, the direct causes,
+/// the events of which it is one, the first event that needs it, and from where its value came.
 ///
 /// # Errors
 /// `TooManyEvents` where it has more than 5,000 events, and `NoMemory` where an allocation fails.
-pub(crate) fn page_of_few(
-    alloc: Global,
-    run: &Trace,
-    refresh: Refresh,
-) -> Result<Vec<u8>, AnswerFault>
+///
+/// Promise: A page has the picture of the run, and an entry for each event, in the order of the history: exactly its
+/// direct causes and those of which it is one, in order, the first event that depends on it, for which undo is refused,
+/// and the step or the input from which its value came. Followed, these lead to exactly its past, its consequences and
+/// its trail (`laws`). What its script shows of them is tested in a browser. `TooManyEvents` comes only of a run with
+/// more than are drawn.
+pub fn page_of_few(alloc: Global, run: &Trace, refresh: Refresh) -> Result<Vec<u8>, AnswerFault>
     requires valid { IsInOrder rules run.now }
     requires few { length run.now.history ≤ most_entries }
     ensures page { IfOk result (λ text. IsPageOfFew refresh run.now text.items) }
-    ensures fault { IfErr result (IsFaultOfFew run.now) }
+    ensures fault { IfErr result (IsFaultOfText ⊥ ⊥ (IsCrowded run.now)) }
 {
     if run.events().len() > MOST_DRAWN {
         return Err(AnswerFault::TooManyEvents);

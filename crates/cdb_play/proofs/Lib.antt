@@ -3,7 +3,6 @@ pub mod Items
 pub mod Ends
 pub mod ScriptsRead
 pub mod RaceTexts
-pub mod RaceGrowth
 pub mod SeatsFit
 pub mod RunningFaults
 pub mod Agreement

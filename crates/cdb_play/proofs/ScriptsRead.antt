@@ -1,10 +1,11 @@
 -- Scripts are read one after the other.
 use Rattle.std.proofs.Common.{◌≡◌, ℕ, ◌+◌, ◌≤◌, List, [], ◌∷◌, ◌++◌, length}
 use Rattle.cdb_commands.specs.declared.command.Command.{Command}
-use Rattle.cdb_play.specs.Races.{race_fault_of_script, AreScripts, IsFirstNotTooLong}
-use Rattle.cdb_play.specs.RaceStages.{IsFaultOfScripts}
+use Rattle.cdb_play.specs.Races.{AreScripts, IsFaultOfScripts, IsFirstNotTooLong}
 use Rattle.cdb_setup.specs.Format.{longest}
 use Rattle.cdb_streams.specs.Scripts.{IsScript, IsFaultOfScript}
+use Rattle.cdb_streams.specs.Faults.{of_script_at}
+use Rattle.cdb_streams.specs.declared.fault.RaceFault.TheVariants.{Play}
 use Rattle.cdb_streams.specs.declared.script.ScriptFault.{ScriptFault}
 use Rattle.cdb_streams.specs.declared.script.ScriptFault.TheVariants.{NoMemory}
 
@@ -27,6 +28,6 @@ first_so_far (other ∷ read) (other_script ∷ good) script rest are short = ar
 -- the first bad script, after those that were read
 pub bad_script : (read : List (List Command)) (good : List (List ℕ)) (bad : List ℕ) (rest scripts : List (List ℕ)) (position : ℕ)
     → scripts ≡ good ++ bad ∷ rest → position ≡ length good + 1 → AreScripts read good
-    → (fault : ScriptFault) → IsFaultOfScript fault bad → IsFaultOfScripts (race_fault_of_script position fault) scripts
+    → (fault : ScriptFault) → IsFaultOfScript fault bad → IsFaultOfScripts (Play (of_script_at position fault)) scripts
 bad_script read good bad rest scripts position whole is_position are (NoMemory refused) said = rw whole (first_so_far read good bad rest are said)
 bad_script read good bad rest scripts position whole is_position are fault said = (read, good, bad, rest, whole, is_position, are, said)

@@ -1,15 +1,13 @@
 -- What a race reads and writes.
-use Rattle.std.specs.Prelude.{◌≡◌, ℕ, ◌+◌, ◌-◌, ◌≤◌, ◌==◌, Bool, true, List, [], ◌∷◌, ◌++◌, length, map, codes, decimal}
-use Rattle.std.specs.Prelude.{Result, OnOk, if◌then◌else◌}
+use Rattle.std.specs.Prelude.{◌≡◌, ◌⊎◌, ℕ, ◌+◌, ◌-◌, ◌≤◌, ◌==◌, Bool, true, List, [], ◌∷◌, ◌++◌, length, map}
+use Rattle.std.specs.Prelude.{codes, decimal, Result, OnOk, if◌then◌else◌}
 use Rattle.std.specs.List.{AllZip, flat_map, list_all, range_with_len}
 use Rattle.std.proofs.Common.{Vec, Global}
 use Rattle.cdb_commands.specs.ReplyView.{ReplyView}
 use Rattle.cdb_control.specs.Journal.{Journaled, control_state}
 use Rattle.cdb_commands.specs.declared.command.Command.{Command}
-use Rattle.cdb_race.specs.Faults as of_threads
+use Rattle.cdb_race.specs.Faults.{IsNotStopped}
 use Rattle.cdb_race.specs.Races.{IsRaced, MayFill, replies_in}
-use Rattle.cdb_race.specs.declared.threads.ThreadFault.{ThreadFault}
-use Rattle.cdb_race.specs.declared.threads.ThreadFault.TheVariants as threads
 use Rattle.cdb_rules.specs.Agreement.{AreProposed, HasMajorityIfNeeded}
 use Rattle.cdb_rules.specs.Rules.{Rules}
 use Rattle.cdb_setup.specs.Format.{Encodes, longest}
@@ -22,8 +20,8 @@ use Rattle.cdb_streams.specs.Scripts.{IsScript, IsFaultOfScript}
 use Rattle.cdb_streams.specs.Streams.{Stream}
 use Rattle.cdb_streams.specs.Written.{IsWritten}
 use Rattle.cdb_streams.specs.declared.fault.RaceFault.{RaceFault}
-use Rattle.cdb_streams.specs.declared.fault.RaceFault.TheVariants.{Setup, Line, ScriptTooLong, Write, NoMemory}
-use Rattle.cdb_streams.specs.declared.fault.RaceFault.TheVariants.{JournalFull, Spawn, Stopped}
+use Rattle.cdb_streams.specs.declared.fault.RaceFault.TheVariants.{Play, JournalFull, Spawn, Stopped}
+use Rattle.cdb_streams.specs.declared.fault.PlayFault.TheVariants.{Setup, Line, ScriptTooLong, Write, NoMemory}
 use Rattle.cdb_streams.specs.declared.script.ScriptFault.{ScriptFault}
 use Rattle.cdb_streams.specs.declared.script.ScriptFault.TheVariants as script
 
@@ -115,75 +113,61 @@ abbrev pub IsFirstNotTooLong : List (List ℕ) → Type 0
 IsFirstNotTooLong [] = Unit {0}
 IsFirstNotTooLong (script ∷ scripts) = length script ≤ longest
 
--- all of them have their commands
-abbrev pub AreAllRead : List (List ℕ) → Type 0
-AreAllRead scripts = (read : List (List Command)) × AreScripts read scripts
+-- the text is that of a race of these commands on a setup, each process with this many turns
+abbrev pub IsTextOfCommands : (Parts → Rules) → Parts → ℕ → List (List Command) → List ℕ → Type 0
+IsTextOfCommands rules setup turns commands text =
+    (control : Journaled) × (replies_given : List (List ReplyView))
+    × IsRaced rules setup turns commands control replies_given × (text ≡ race_text rules control)
 
--- the text is that of a race of these scripts on a setup, each process with this many turns
-pub record IsTextOnSetup (rules : Parts → Rules) (setup : Parts) (turns : ℕ) (scripts : List (List ℕ))
-    (text : List ℕ) : Type 0 where
-  pub commands : List (List Command)
-  pub control : Journaled
-  pub replies_given : List (List ReplyView)
-  pub read : AreScripts commands scripts
-  pub raced : IsRaced rules setup turns commands control replies_given
-  pub is : text ≡ race_text rules control
+-- the same of the commands of these scripts
+abbrev pub IsTextOnSetup : (Parts → Rules) → Parts → ℕ → List (List ℕ) → List ℕ → Type 0
+IsTextOnSetup rules setup turns scripts text =
+    (commands : List (List Command)) × AreScripts commands scripts × IsTextOfCommands rules setup turns commands text
 
 -- the same on the setup that a text of JSON encodes
 abbrev pub IsTextOfRace : (Parts → Rules) → List ℕ → ℕ → List (List ℕ) → List ℕ → Type 0
 IsTextOfRace rules json turns scripts text =
     (setup : Parts) × Encodes json setup × IsTextOnSetup rules setup turns scripts text
 
--- ---- which fault of a race each fault of its scripts and of its threads is; out of memory is one fault
+-- ---- what faults say
 
--- of the script of this number
-abbrev pub race_fault_of_script : ℕ → ScriptFault → RaceFault
-race_fault_of_script position (script.Line line fault) = Line position line fault
-race_fault_of_script position script.TooLong = ScriptTooLong position
-race_fault_of_script position (script.NoMemory refused) = NoMemory refused
-
-abbrev pub race_fault_of_threads : ThreadFault → RaceFault
-race_fault_of_threads (threads.NoMemory refused) = NoMemory refused
-race_fault_of_threads threads.JournalFull = JournalFull
-race_fault_of_threads (threads.Spawn refused) = Spawn refused
-race_fault_of_threads (threads.Stopped seat) = Stopped seat
-
--- ---- what they say
-
--- no gate stopped a session
-abbrev pub StopsNoSeat : RaceFault → Type 0
-StopsNoSeat (Stopped seat) = ⊥
-StopsNoSeat other = Unit {0}
+-- a fault of reading the scripts; out of memory comes only where the first is not too long
+abbrev pub IsFaultOfScripts : RaceFault → List (List ℕ) → Type 0
+IsFaultOfScripts (Play (Line position line fault)) scripts = IsFirstBad position (script.Line line fault) scripts
+IsFaultOfScripts (Play (ScriptTooLong position)) scripts = IsFirstBad position script.TooLong scripts
+IsFaultOfScripts (Play (NoMemory refused)) scripts = IsFirstNotTooLong scripts
+IsFaultOfScripts fault scripts = ⊥
 
 -- What a fault of the sessions says of the setup, the turns and the commands of a race whose gates always pass: none
 -- was stopped.
-abbrev pub IsFaultUngated : Parts → ℕ → List (List Command) → ThreadFault → Type 0
-IsFaultUngated setup turns commands fault = of_threads.IsNotStopped fault
+abbrev pub IsFaultUngated : Parts → ℕ → List (List Command) → RaceFault → Type 0
+IsFaultUngated setup turns commands fault = IsNotStopped fault
 
-module _ (IsFaultOfSessions : Parts → ℕ → List (List Command) → ThreadFault → Type 0) where
-  -- What a fault says of a race of these scripts on a setup, each process with this many turns. Those of the scripts
-  -- come before the others. A journal is full only where the most calls of such a race are as many as a journal has
-  -- entries at most; a stopped seat is one of a process or of a script; of both the parameter says what ended the
-  -- sessions. Out of memory comes only where the first script is not too long.
+module _ (IsFaultOfSessions : Parts → ℕ → List (List Command) → RaceFault → Type 0) where
+  -- What a fault says of a race of these commands on a setup, each process with this many turns. A journal is full only
+  -- where the most calls of such a race are as many as a journal has entries at most; a stopped seat is one of a
+  -- process or of a script; of both the parameter says what ended the sessions.
+  abbrev pub IsFaultOfCommands : Parts → ℕ → List (List Command) → RaceFault → Type 0
+  IsFaultOfCommands setup turns commands JournalFull =
+      MayFill setup turns commands × IsFaultOfSessions setup turns commands JournalFull
+  IsFaultOfCommands setup turns commands (Stopped seat) =
+      IsWithin 1 (setup.processes + length commands) seat × IsFaultOfSessions setup turns commands (Stopped seat)
+  IsFaultOfCommands setup turns commands (Spawn refused) = Unit {0}
+  IsFaultOfCommands setup turns commands (Play Write) = Unit {0}
+  IsFaultOfCommands setup turns commands (Play (NoMemory refused)) = Unit {0}
+  IsFaultOfCommands setup turns commands other = ⊥
+
+  -- the same of the commands of these scripts; faults of the scripts come before the others
   abbrev pub IsFaultOnSetup : Parts → ℕ → List (List ℕ) → RaceFault → Type 0
-  IsFaultOnSetup setup turns scripts (Setup fault) = ⊥
-  IsFaultOnSetup setup turns scripts (Line position line fault) = IsFirstBad position (script.Line line fault) scripts
-  IsFaultOnSetup setup turns scripts (ScriptTooLong position) = IsFirstBad position script.TooLong scripts
-  IsFaultOnSetup setup turns scripts JournalFull =
-      (commands : List (List Command)) × AreScripts commands scripts × MayFill setup turns commands
-      × IsFaultOfSessions setup turns commands threads.JournalFull
-  IsFaultOnSetup setup turns scripts (Stopped seat) =
-      (commands : List (List Command)) × AreScripts commands scripts
-      × IsWithin 1 (setup.processes + length scripts) seat
-      × IsFaultOfSessions setup turns commands (threads.Stopped seat)
-  IsFaultOnSetup setup turns scripts (Spawn refused) = AreAllRead scripts
-  IsFaultOnSetup setup turns scripts Write = AreAllRead scripts
-  IsFaultOnSetup setup turns scripts (NoMemory refused) = IsFirstNotTooLong scripts
+  IsFaultOnSetup setup turns scripts fault =
+      IsFaultOfScripts fault scripts
+      ⊎ ((commands : List (List Command)) × AreScripts commands scripts
+      × IsFaultOfCommands setup turns commands fault)
 
   -- the same of a race on the setup that a text of JSON encodes: a fault of the setup comes before all others, and out
   -- of memory only where the text is not too long
   abbrev pub IsFaultOfRace : List ℕ → ℕ → List (List ℕ) → RaceFault → Type 0
-  IsFaultOfRace json turns scripts (Setup fault) = IsFirstFault fault json
-  IsFaultOfRace json turns scripts (NoMemory refused) = length json ≤ longest
+  IsFaultOfRace json turns scripts (Play (Setup fault)) = IsFirstFault fault json
+  IsFaultOfRace json turns scripts (Play (NoMemory refused)) = length json ≤ longest
   IsFaultOfRace json turns scripts fault =
       (setup : Parts) × Encodes json setup × IsFaultOnSetup setup turns scripts fault

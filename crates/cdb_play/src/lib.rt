@@ -5,4 +5,4 @@ mod plays;
 mod races;
 
 pub use plays::play;
-pub use races::{race, race_on, race_on_with, race_with};
+pub use races::{race, race_on, race_with};

@@ -2,15 +2,14 @@
 
 ghost use Rattle.std.specs.Prelude.{◌≡◌, ◌+◌, ◌≤◌, length, vec_len, IfOk, IfErr};
 ghost use Rattle.cdb_base.specs.Limits.{MAX_SEATS};
-ghost use Rattle.cdb_race.specs.Faults.{IsFaultBehind};
+ghost use Rattle.cdb_race.specs.Faults.{IsFaultBehind, IsNotStopped};
 ghost use Rattle.cdb_race.specs.Races.{AllPass};
 ghost use Rattle.cdb_rules.specs.Agreement.{HasMajorityIfNeeded};
 ghost use Rattle.cdb_setup.specs.Format.{Encodes};
 ghost use Rattle.cdb_setup.specs.Parts.{Parts};
-ghost use Rattle.cdb_play.specs.Races.{race_fault_of_script, race_fault_of_threads, bytes_of, AreScripts};
-ghost use Rattle.cdb_play.specs.Races.{IsTextOnSetup, IsTextOfRace, StopsNoSeat, IsFaultUngated, IsFaultOnSetup};
+ghost use Rattle.cdb_play.specs.Races.{bytes_of, AreScripts, IsTextOfCommands, IsTextOnSetup, IsTextOfRace};
+ghost use Rattle.cdb_play.specs.Races.{IsFaultUngated, IsFaultOfScripts, IsFaultOfCommands, IsFaultOnSetup};
 ghost use Rattle.cdb_play.specs.Races.{IsFaultOfRace, IsSetupWithMajority, AgreesAtEnd, ProposedAtEnd};
-ghost use Rattle.cdb_play.specs.RaceStages.{IsTextOfCommands, IsFaultOfScripts, IsFaultOfCommands};
 ghost use Rattle.cdb_streams.specs.Endings.{race_ending};
 ghost use Rattle.cdb_streams.specs.Written.{IsWritten};
 
@@ -18,26 +17,14 @@ mod text;
 
 use cdb_base::NoMemory;
 use cdb_control::Runs;
-use cdb_race::{Script, ThreadFault};
+use cdb_race::Script;
 use cdb_setup::Setup;
 use cdb_shared::{Gate, Seat};
-use cdb_streams::{Buffer, RaceFault, ScriptFault, Sink, commands_of};
+use cdb_streams::{RaceFault, Sink, commands_of, write_text};
 use std::alloc::{AllocError, Global};
 use std::sync::Wait;
 use std::thread::Threads;
-use text::write_race;
-
-/// A fault of the threads. Nothing was written then.
-fn of_threads(fault: ThreadFault) -> RaceFault
-    ensures { result ≡ race_fault_of_threads fault }
-{
-    match fault {
-        ThreadFault::NoMemory(refused) => RaceFault::NoMemory(refused),
-        ThreadFault::JournalFull => RaceFault::JournalFull,
-        ThreadFault::Spawn(refused) => RaceFault::Spawn(refused),
-        ThreadFault::Stopped(seat) => RaceFault::Stopped(seat),
-    }
-}
+use text::text_with;
 
 /// A gate that always passes.
 #[derive(Clone, Copy, PartialEq, Eq)]
@@ -62,17 +49,6 @@ fn open_gates(alloc: Global, count: usize) -> Result<Vec<Open>, AllocError>
     vec![in alloc; Open; count]
 }
 
-/// A fault of the script of this number.
-fn fault_of_script(position: usize, fault: ScriptFault) -> RaceFault
-    ensures { result ≡ race_fault_of_script position fault }
-{
-    match fault {
-        ScriptFault::Line(line, fault) => RaceFault::Line(position, line, fault),
-        ScriptFault::TooLong => RaceFault::ScriptTooLong(position),
-        ScriptFault::NoMemory(refused) => RaceFault::NoMemory(refused),
-    }
-}
-
 /// The scripts with their commands, in order. The first bad script is named with its first fault.
 fn scripts_of(alloc: Global, scripts: &[Vec<u8>]) -> Result<Vec<Script>, RaceFault>
     ensures read { IfOk result (λ read. AreScripts read.items (bytes_of scripts.now)) }
@@ -84,16 +60,16 @@ fn scripts_of(alloc: Global, scripts: &[Vec<u8>]) -> Result<Vec<Script>, RaceFau
         match commands_of(alloc, script.as_slice()) {
             Ok(commands) => {
                 if let Err(error) = read.push(Script::new(commands)) {
-                    return Err(RaceFault::NoMemory(NoMemory::from(error)));
+                    return Err(RaceFault::from(NoMemory::from(error)));
                 }
             }
-            Err(fault) => return Err(fault_of_script(read.len() + 1, fault)),
+            Err(fault) => return Err(RaceFault::Play(fault.at(read.len() + 1))),
         }
     }
     Ok(read)
 }
 
-/// Runs the race, and then writes its text. The memory of the buffer is there before the threads start.
+/// Runs the race, and then writes its text, which is whole before any of it is written.
 fn run_race<T: Runs + Send, G: Gate + Drop + Send, R: Threads + Wait + Sync, W: Sink>(
     rt: &R,
     alloc: Global,
@@ -112,35 +88,24 @@ fn run_race<T: Runs + Send, G: Gate + Drop + Send, R: Threads + Wait + Sync, W: 
     ensures fault { IfErr result
         (IsFaultOfCommands (IsFaultBehind T T.rules G.calls G.passes gates.items)
         setup turns scripts.now) }
-    ensures passes { AllPass G.passes gates.items → IfErr result StopsNoSeat }
+    ensures passes { AllPass G.passes gates.items → IfErr result IsNotStopped }
 {
-    let buffer = Buffer::new(alloc)?;
     let processes = usize::from(setup.n());
-    let raced = match cdb_race::race::<T, G, R>(rt, alloc, setup, turns, scripts, gates) {
-        Ok(raced) => raced,
-        Err(fault) => return Err(of_threads(fault)),
-    };
-    let written = write_race(
-        alloc,
-        &raced.control,
-        &raced.replies[processes..],
-        buffer,
-        out,
-    );
+    let raced = cdb_race::race::<T, G, R>(rt, alloc, setup, turns, scripts, gates)?;
+    let made = text_with(alloc, &raced.control, &raced.replies[processes..]);
     raced.close();
-    written?;
+    let text = made?;
+    write_text(alloc, text.as_bytes(), out)?;
     Ok(())
 }
 
-/// Runs a race on a setup: each process is driven for this many turns by a seat of its own, and each script is served
-/// by a seat of its own, after the gate of that seat. Then the text of the race is written: for each script
-/// its seat and its replies, then the decisions of the last state, and whether they agree.
+/// Runs a race on the setup that a text of JSON encodes: each process is driven for this many turns by a seat of its
+/// own, and each script is served by a seat of its own, after the gate of that seat. Then the text of the race is
+/// written: for each script its seat and its replies, then the decisions of the last state, and whether they agree.
 ///
-/// Each script is read first, by order, where `ScriptTooLong` is looked for before the first bad line: so after
-/// `ScriptTooLong` and `Line` nothing was written, nor after `JournalFull`, `Spawn` and `Stopped`, which come from the
-/// threads. After `Write` what was written is a beginning of the text, and after `NoMemory` one of whole pieces of
-/// 65,536 bytes. `Write` comes only where the writer failed in this call, and `Setup` never. `NoMemory` comes only
-/// where the first script is not too long.
+/// The setup is read first, and then each script, by order, where `ScriptTooLong` is looked for before the first bad
+/// line. `JournalFull`, `Spawn` and `Stopped` come from the threads. After `Write`, which comes only where the writer
+/// failed in this call, what was written is a beginning of the text, and after any other fault nothing was.
 ///
 /// With a majority, or in Alpha, the last line of a race that ended well is `decisions agree`, and each decision in the
 /// line before it was the input of a process. Of several faults of sessions that of the least seat is reported;
@@ -150,54 +115,6 @@ fn run_race<T: Runs + Send, G: Gate + Drop + Send, R: Threads + Wait + Sync, W: 
 /// Promise: A race writes each script's replies, the last decisions, and whether they agree, all of one journal that
 /// explains it. In Alpha, and with a majority, each race that ends well ends with `decisions agree`, and the decisions
 /// were inputs.
-pub fn race_on_with<T: Runs + Send, G: Gate + Drop + Send, R: Threads + Wait + Sync, W: Sink>(
-    rt: &R,
-    alloc: Global,
-    setup: Setup,
-    turns: u32,
-    scripts: &[Vec<u8>],
-    gates: Vec<G>,
-    out: &mut W,
-) -> Result<(), RaceFault>
-    requires fits { setup.processes + length scripts.now ≤ MAX_SEATS }
-    requires gates { vec_len gates ≡ setup.processes + length scripts.now }
-    ensures wrote { IsWritten W.stream (race_ending result) out.old out.new
-        (IsTextOnSetup T.rules setup turns (bytes_of scripts.now)) }
-    ensures agree { HasMajorityIfNeeded setup → AgreesAtEnd W.stream result out.old out.new }
-    ensures proposed { ProposedAtEnd W.stream setup result out.old out.new }
-    ensures fault { IfErr result
-        (IsFaultOnSetup (IsFaultBehind T T.rules G.calls G.passes gates.items)
-        setup turns (bytes_of scripts.now)) }
-    ensures passes { AllPass G.passes gates.items → IfErr result StopsNoSeat }
-{
-    let commands = scripts_of(alloc, scripts)?;
-    run_race::<T, G, R, W>(rt, alloc, setup, turns, commands.as_slice(), gates, out)
-}
-
-/// Runs a race as `race_on_with` does, with gates that always pass.
-pub fn race_on<T: Runs + Send, R: Threads + Wait + Sync, W: Sink>(
-    rt: &R,
-    alloc: Global,
-    setup: Setup,
-    turns: u32,
-    scripts: &[Vec<u8>],
-    out: &mut W,
-) -> Result<(), RaceFault>
-    requires fits { setup.processes + length scripts.now ≤ MAX_SEATS }
-    ensures wrote { IsWritten W.stream (race_ending result) out.old out.new
-        (IsTextOnSetup T.rules setup turns (bytes_of scripts.now)) }
-    ensures agree { HasMajorityIfNeeded setup → AgreesAtEnd W.stream result out.old out.new }
-    ensures proposed { ProposedAtEnd W.stream setup result out.old out.new }
-    ensures fault { IfErr result
-        (IsFaultOnSetup IsFaultUngated setup turns (bytes_of scripts.now)) }
-{
-    let commands = scripts_of(alloc, scripts)?;
-    let gates = open_gates(alloc, usize::from(setup.n()) + commands.len())?;
-    run_race::<T, Open, R, W>(rt, alloc, setup, turns, commands.as_slice(), gates, out)
-}
-
-/// Runs a race as `race_on_with` does, on the setup that a text of JSON encodes. The setup is read first: after
-/// `Setup` nothing was written.
 pub fn race_with<T: Runs + Send, G: Gate + Drop + Send, R: Threads + Wait + Sync, W: Sink>(
     rt: &R,
     alloc: Global,
@@ -219,10 +136,34 @@ pub fn race_with<T: Runs + Send, G: Gate + Drop + Send, R: Threads + Wait + Sync
     ensures fault { IfErr result
         (IsFaultOfRace (IsFaultBehind T T.rules G.calls G.passes gates.items)
         setup.now turns (bytes_of scripts.now)) }
-    ensures passes { AllPass G.passes gates.items → IfErr result StopsNoSeat }
+    ensures passes { AllPass G.passes gates.items → IfErr result IsNotStopped }
 {
     let parts = Setup::read(alloc, setup)?;
-    race_on_with::<T, G, R, W>(rt, alloc, parts, turns, scripts, gates, out)
+    let commands = scripts_of(alloc, scripts)?;
+    run_race::<T, G, R, W>(rt, alloc, parts, turns, commands.as_slice(), gates, out)
+}
+
+/// Runs a race as `race_with` does, on a setup, with gates that always pass. `Setup` comes never, and `NoMemory` only
+/// where the first script is not too long.
+pub fn race_on<T: Runs + Send, R: Threads + Wait + Sync, W: Sink>(
+    rt: &R,
+    alloc: Global,
+    setup: Setup,
+    turns: u32,
+    scripts: &[Vec<u8>],
+    out: &mut W,
+) -> Result<(), RaceFault>
+    requires fits { setup.processes + length scripts.now ≤ MAX_SEATS }
+    ensures wrote { IsWritten W.stream (race_ending result) out.old out.new
+        (IsTextOnSetup T.rules setup turns (bytes_of scripts.now)) }
+    ensures agree { HasMajorityIfNeeded setup → AgreesAtEnd W.stream result out.old out.new }
+    ensures proposed { ProposedAtEnd W.stream setup result out.old out.new }
+    ensures fault { IfErr result
+        (IsFaultOnSetup IsFaultUngated setup turns (bytes_of scripts.now)) }
+{
+    let commands = scripts_of(alloc, scripts)?;
+    let gates = open_gates(alloc, usize::from(setup.n()) + commands.len())?;
+    run_race::<T, Open, R, W>(rt, alloc, setup, turns, commands.as_slice(), gates, out)
 }
 
 /// Runs a race as `race_with` does, with gates that always pass.

@@ -14,8 +14,7 @@ ghost use Rattle.cdb_base.specs.Limits.{MAX_PROCESSES};
 ghost use Rattle.cdb_process.specs.declared.Input.{Input};
 ghost use Rattle.cdb_process.specs.declared.Wish.{Wish};
 ghost use Rattle.cdb_process.specs.Table.{Table};
-ghost use Rattle.cdb_process.specs.Process.{QueryDependsOnStateAlone, RecvDependsOnStateAlone, WishNamesSend};
-ghost use Rattle.cdb_process.specs.Process.{WishNamesRead, WishNamesWrite, WishNamesLocal};
+ghost use Rattle.cdb_process.specs.Process.{IsLawful};
 
 use cdb_base::{Cell, NoMemory, Payload, Proc, Reg, Val};
 use std::alloc::Global;
@@ -108,17 +107,7 @@ pub trait Process: Sized + Drop {
     fn round(&self) -> u32
         ensures { result ≡ table.round self.now };
 
-    ghost query_by_state: { QueryDependsOnStateAlone table.next table.accepts_query };
-
-    ghost recv_by_state: { RecvDependsOnStateAlone table.next table.accepts_receive };
-
-    ghost wish_send: { WishNamesSend table.next table.wish };
-
-    ghost wish_read: { WishNamesRead table.next table.wish };
-
-    ghost wish_write: { WishNamesWrite table.next table.wish };
-
-    ghost wish_local: { WishNamesLocal table.next table.wish };
+    ghost lawful: { IsLawful table.next table.accepts_query table.accepts_receive table.wish };
 }
 
 /// A machine whose local states can be compared.

@@ -1,6 +1,7 @@
 pub mod Shown
 pub mod OpenedFiles
 pub mod Seen
+pub mod WrittenTexts
 pub mod Raced
 pub mod Reported
 pub mod Seated

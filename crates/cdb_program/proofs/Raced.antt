@@ -8,10 +8,11 @@ use Rattle.cdb_streams.proofs.StreamEnds.{written_as}
 use Rattle.cdb_play.proofs.RunningFaults.{of_race, of_setup_read}
 use Rattle.cdb_streams.specs.Endings.{race_ending}
 use Rattle.cdb_play.specs.Races.{IsFaultOnSetup, IsFaultUngated, IsTextOfRace, IsTextOnSetup, AgreesAtEnd}
-use Rattle.cdb_streams.specs.RaceFaults.{race_fault_of_setup}
+use Rattle.cdb_streams.specs.Faults.{of_setup}
 use Rattle.cdb_streams.specs.Streams.{Stream}
 use Rattle.cdb_streams.specs.Written.{IsWritten}
 use Rattle.cdb_streams.specs.declared.fault.RaceFault.{RaceFault}
+use Rattle.cdb_streams.specs.declared.fault.RaceFault.TheVariants.{Play}
 use Rattle.cdb_rules.specs.Agreement.{HasMajorityIfNeeded}
 use Rattle.cdb_setup.specs.Format.{Encodes, longest}
 use Rattle.cdb_setup.specs.Order.{IsFirstFault}
@@ -42,9 +43,9 @@ race_seen stream json turns parts scripts raced old new stands only few wrote ag
 -- the text was not read as a setup
 pub race_unread : (json : List ℕ) (turns : ℕ) (scripts : List (List ℕ)) (fault : SetupFault) (out : Stream) → (fault ≢ setup.NoMemory no_memory
     → IsFirstFault fault json) → (longest < length json → fault ≡ setup.TooLong) → ((other : Parts) → Encodes json other → fault ≡ (setup.NoMemory no_memory))
-    → IsRace json turns scripts (Err (race_fault_of_setup fault)) out out
+    → IsRace json turns scripts (Err (Play (of_setup fault))) out out
 race_unread json turns scripts fault out said long only = record {
-  fits = λ ended other its. absurd (ended (ap (λ (f : SetupFault). Err (race_fault_of_setup f)) (only other its)));
+  fits = λ ended other its. absurd (ended (ap (λ (f : SetupFault). Err (Play (of_setup f))) (only other its)));
   wrote = race_unwritten_setup (λ (s : Stream). s) (Unit {0}) (IsTextOfRace rules json turns scripts) out fault;
   agree = λ of_majority. tt;
   fault = of_setup_read IsFaultUngated turns json scripts fault said long;

@@ -1,15 +1,15 @@
 -- What a request does that draws the frames of a script, each into a file of its own.
 use Rattle.std.specs.Prelude.{◌≡◌, ◌⊎◌, ℕ, ◌-◌, ◌<◌, List, [], ◌∷◌, ◌++◌, codes, decimal, length}
-use Rattle.std.specs.Prelude.{map, max, replicate, unwrap_or, Option, Some, Result, Ok, Err}
+use Rattle.std.specs.Prelude.{map, max, replicate, unwrap_or, Result, Ok, Err}
 use Rattle.std.specs.List.{range_with_len}
 use Rattle.cdb_agreement.specs.Algorithms.{rules}
 use Rattle.cdb_base.specs.Positions.{nth}
-use Rattle.cdb_draw.specs.Frames.{GivesFrames, IsFaultOfFrames}
+use Rattle.cdb_draw.specs.Frames.{AreFramesOf, IsFaultOfFrames}
 use Rattle.cdb_explain.specs.declared.fault.AnswerFault.{AnswerFault}
 use Rattle.cdb_streams.specs.declared.buffer.OutputFault.{OutputFault}
 use Rattle.cdb_streams.specs.declared.fault.PlayFault.TheVariants.{Read, Write, NoMemory}
 use Rattle.cdb_streams.specs.declared.source.ReadFault.{ReadFault}
-use Rattle.cdb_program.specs.Known.{FilesSeen, Seen, after_failing, after_opening, after_writing, in_memory}
+use Rattle.cdb_program.specs.Known.{FilesSeen, Seen, after_failing, after_opening, after_writing}
 use Rattle.cdb_program.specs.Outcomes.{RequestEnd, IsOfAnswer}
 use Rattle.cdb_program.specs.FilesRead.{CannotReadFiles, FailsToOpen, HasRead}
 use Rattle.cdb_program.specs.declared.fault.Fault.TheVariants.{Play}
@@ -64,11 +64,10 @@ WritesFrames old new folder pictures (Err fault) = ⊥
 -- not touched
 abbrev pub FramesBytes : List ℕ → List ℕ → ℕ → List ℕ → List ℕ → FilesSeen → FilesSeen → RequestEnd → Type 0
 FramesBytes name folder columns json script old new outcome =
-    (left : Option (List ℕ))
-    × (((fault : AnswerFault) × IsOfAnswer name (Err fault) outcome
-    × IsFaultOfFrames rules json (in_memory (Some script)) (in_memory left) fault × (new ≡ old))
-    ⊎ ((pictures : List (List ℕ)) × GivesFrames rules json columns (in_memory (Some script)) (in_memory left) pictures
-    × WritesFrames old new folder pictures outcome))
+    ((fault : AnswerFault) × IsOfAnswer name (Err fault) outcome
+    × IsFaultOfFrames rules json script fault × (new ≡ old))
+    ⊎ ((pictures : List (List ℕ)) × AreFramesOf rules json script columns pictures
+    × WritesFrames old new folder pictures outcome)
 
 -- the file of the setup and then that of the script are read, and the frames are drawn; nothing is written elsewhere
 abbrev pub FramesFiles : List ℕ → List ℕ → List ℕ → ℕ → Seen → Seen → RequestEnd → Type 0

@@ -4,6 +4,7 @@ pub mod Known
 pub mod Outcomes
 pub mod FilesRead
 pub mod TextsOfRuns
+pub mod TextsMade
 pub mod Reports
 pub mod Plays
 pub mod Races

@@ -7,7 +7,8 @@ use Rattle.cdb_play.specs.Races.{IsTextOfRace, IsFaultOfRace, IsFaultUngated, Is
 use Rattle.cdb_streams.specs.Streams.{Stream, itself}
 use Rattle.cdb_streams.specs.Written.{IsWritten}
 use Rattle.cdb_streams.specs.declared.fault.RaceFault.{RaceFault}
-use Rattle.cdb_streams.specs.declared.fault.RaceFault.TheVariants.{NoMemory}
+use Rattle.cdb_streams.specs.declared.fault.PlayFault.TheVariants.{NoMemory}
+use Rattle.cdb_streams.specs.declared.fault.RaceFault.TheVariants.{Play}
 use Rattle.cdb_setup.specs.Format.{Encodes}
 use Rattle.cdb_setup.specs.Parts.{Parts}
 use Rattle.cdb_program.specs.Known.{Seen}
@@ -23,7 +24,7 @@ NeedsTooManySeats json scripts = (setup : Parts) × Encodes json setup × (MAX_S
 -- A race of scripts on the setup of this text ended so. The output is seen before and after.
 pub record IsRace (json : List ℕ) (turns : ℕ) (scripts : List (List ℕ))
     (raced : Result (Unit {0}) RaceFault) (old new : Stream) : Type 0 where
-  pub fits : raced ≢ Err (NoMemory no_memory) → (setup : Parts)
+  pub fits : raced ≢ Err (Play (NoMemory no_memory)) → (setup : Parts)
       → Encodes json setup → setup.processes + length scripts ≤ MAX_SEATS
   pub wrote : IsWritten itself (race_ending raced) old new (IsTextOfRace rules json turns scripts)
   pub agree : IsSetupWithMajority json → AgreesAtEnd itself raced old new

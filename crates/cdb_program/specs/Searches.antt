@@ -1,17 +1,19 @@
 -- What searches do, and what makes scripts small.
-use Rattle.std.specs.Prelude.{◌≡◌, ◌⊎◌, ℕ, List, [], ◌∷◌, Err, IfErr}
+use Rattle.std.specs.Prelude.{◌≡◌, ◌⊎◌, ℕ, List, [], ◌∷◌, Err}
 use Rattle.cdb_agreement.specs.Algorithms.{rules}
 use Rattle.cdb_goal.specs.Words.{IsWordOf}
 use Rattle.cdb_goal.specs.declared.goal.Goal.{Goal}
-use Rattle.cdb_explain.specs.Explained.{answer_ending}
+use Rattle.cdb_explain.specs.RunLeft.{IsFaultOfRun, IsRunLeft}
+use Rattle.cdb_explain.specs.declared.fault.AnswerFault.{AnswerFault}
+use Rattle.cdb_explain.specs.declared.fault.AnswerFault.TheVariants.{Play}
+use Rattle.cdb_rules.specs.RunView.{RunView}
 use Rattle.cdb_search.specs.Found.{IsFaultOfSearch, IsFound}
-use Rattle.cdb_search.specs.Shrunk.{IsFaultOfShrink, WritesShrunk}
-use Rattle.cdb_streams.specs.Streams.{Stream, itself}
-use Rattle.cdb_streams.specs.Written.{IsWritten}
+use Rattle.cdb_search.specs.Shrunk.{IsFaultOfShrink, IsShrunkText}
+use Rattle.cdb_streams.specs.Streams.{Stream}
 use Rattle.cdb_program.specs.Known.{Seen}
 use Rattle.cdb_program.specs.Outcomes.{RequestEnd, IsOfAnswer}
 use Rattle.cdb_program.specs.FilesRead.{ReadsThen}
-use Rattle.cdb_program.specs.TextsOfRuns.{DoesWithBytes, IsTextOfRun, TextEnd, as_answer_fault}
+use Rattle.cdb_program.specs.TextsMade.{IsTextWritten, TextEnd, WritesAbout}
 use Rattle.cdb_program.specs.declared.fault.Fault.TheVariants.{NoGoal}
 
 -- no file is opened, standard input is left as it is, and nothing is written: the word names no goal
@@ -20,17 +22,11 @@ RefusesWord word old new outcome =
     ((goal : Goal) → IsWordOf goal word → ⊥) × (new.files ≡ old.files)
     × (new.input ≡ old.input) × (new.output ≡ old.output) × (outcome ≡ Err NoGoal)
 
--- A search on the setup of this text, for the goal, of so many walks, ended so. The output is seen before and after.
-pub record IsSearch (json : List ℕ) (goal : Goal) (walks : ℕ)
-    (searched : TextEnd) (old new : Stream) : Type 0 where
-  pub wrote : IsWritten itself (answer_ending searched) old new (IsFound rules json goal)
-  pub fault : IfErr searched (IsFaultOfSearch json walks)
-
--- with the bytes of the setup's file, which has this name
+-- the bytes of the setup's file, which has this name, and a script of such a run is written
 abbrev pub SearchesBytes : List ℕ → Goal → ℕ → Stream → Stream → RequestEnd → List (List ℕ) → Type 0
 SearchesBytes name goal walks old new outcome (json ∷ []) =
     (searched : TextEnd) × IsOfAnswer name searched outcome
-    × IsSearch json goal walks searched old new
+    × IsTextWritten (IsFound rules json goal) (IsFaultOfSearch json walks) searched old new
 SearchesBytes name goal walks old new outcome others = ⊥
 
 -- the file of the setup is read, and then the search takes place
@@ -46,18 +42,22 @@ SearchesFile setup word walks old new outcome =
 
 -- ---- scripts made small
 
--- the script was made small, as long as the goal holds, with the text of a setup, and a script's reader and the output
--- before and after
-abbrev pub IsShrunk : Goal → Stream → Stream → List ℕ → TextEnd → Stream → Stream → Type 0
-IsShrunk goal old new json ended script left =
-    IsTextOfRun as_answer_fault ended (answer_ending ended) (WritesShrunk rules json goal script left)
-    (IsFaultOfShrink rules json goal script left) script left old new
+-- the text is a small script of the run that a script leaves
+abbrev pub IsShrunkScript : Goal → List ℕ → List ℕ → List ℕ → Type 0
+IsShrunkScript goal json script text =
+    (run : RunView) × IsRunLeft rules json script run × IsShrunkText rules run goal text
+
+-- there is no run, or the goal doesn't hold of it
+abbrev pub IsFaultOfShrunk : Goal → List ℕ → List ℕ → AnswerFault → Type 0
+IsFaultOfShrunk goal json script (Play fault) = IsFaultOfRun json script fault
+IsFaultOfShrunk goal json script fault =
+    (run : RunView) × IsRunLeft rules json script run × IsFaultOfShrink rules run goal fault
 
 -- the file of the setup and then that of the script are read, and the script is made small
 abbrev pub ShrinksTo : List ℕ → List ℕ → Goal → Seen → Seen → RequestEnd → Type 0
 ShrinksTo setup script goal old new outcome =
     ReadsThen (setup ∷ script ∷ []) old new outcome
-    (DoesWithBytes (IsOfAnswer script) (IsShrunk goal old.output new.output) outcome)
+    (WritesAbout script (IsShrunkScript goal) (IsFaultOfShrunk goal) old.output new.output outcome)
 
 -- the same for a goal that the word names, where it names one
 abbrev pub ShrinksFiles : List ℕ → List ℕ → List ℕ → Seen → Seen → RequestEnd → Type 0

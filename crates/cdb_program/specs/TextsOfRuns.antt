@@ -1,7 +1,5 @@
 -- What a request does that writes a text about the run that a script leaves.
 use Rattle.std.specs.Prelude.{◌≡◌, ℕ, List, [], ◌∷◌, Option, Some, Result, Err, IfErr}
-use Rattle.cdb_explain.specs.declared.fault.AnswerFault.{AnswerFault}
-use Rattle.cdb_explain.specs.declared.fault.AnswerFault.TheVariants.{Play}
 use Rattle.cdb_setup.specs.declared.fault.SetupFault.{SetupFault}
 use Rattle.cdb_streams.specs.Endings.{Ending}
 use Rattle.cdb_streams.specs.Streams.{FailsWhere, Stream, itself}
@@ -19,13 +17,6 @@ pub record IsTextOfRun {F : Type 0} (of_play : PlayFault → F) (ended : Result 
   pub fault : IfErr ended IsFault
   pub unread : (fault : SetupFault) → ended ≡ Err (of_play (play.Setup fault)) → left ≡ script
   pub read : FailsWhere itself (ended ≡ Err (of_play play.Read)) script left
-
--- how the writing of an answer ended, and the fault of a play as one of its faults
-abbrev pub TextEnd : Type 0
-TextEnd = Result (Unit {0}) AnswerFault
-
-abbrev pub as_answer_fault : PlayFault → AnswerFault
-as_answer_fault fault = Play fault
 
 -- how a play ended
 abbrev pub PlayEnd : Type 0

@@ -9,7 +9,7 @@ use crate::fault::{Fault, of_answer};
 use crate::files::{Files, read_two};
 use crate::world::World;
 use cdb_draw::Frames;
-use cdb_streams::{Bytes, OutputFault, PlayFault, Sink, Source};
+use cdb_streams::{OutputFault, PlayFault, Sink, Source};
 use std::alloc::{AllocError, Global};
 
 /// The digits of a number.
@@ -107,8 +107,7 @@ pub fn frame_files<'a, F: Files + Drop, I: Source + Drop, O: Sink + Drop, E: Sin
     ensures saved { world.new.saved ≡ world.old.saved }
 {
     let (json, bytes) = read_two(alloc, &mut world.files, setup, script)?;
-    let mut commands = Bytes::new(bytes.as_slice());
-    match Frames::read(alloc, json.as_slice(), &mut commands, columns) {
+    match Frames::read(alloc, json.as_slice(), bytes.as_slice(), columns) {
         Ok(frames) => write_frames(alloc, &mut world.files, folder, &frames),
         Err(fault) => of_answer(Err(fault), script),
     }

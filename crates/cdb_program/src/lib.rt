@@ -9,6 +9,7 @@ mod fault;
 mod files;
 mod frames;
 mod live_pages;
+mod made;
 mod plays;
 mod questions;
 mod races;

@@ -1,58 +1,67 @@
-//! Questions of the run that a script file leaves.
+//! Questions of a run: the text that answers each, and what is done where a script file leaves the run.
 
-ghost use Rattle.std.specs.Prelude.{◌≡◌, Err, IfErr};
-ghost use Rattle.cdb_explain.specs.declared.fault.AnswerFault.TheVariants.{Play as of_play};
-ghost use Rattle.cdb_program.specs.Questions.{Answers, AsksFiles, IsFaultOfQuestion, question_ending};
-ghost use Rattle.cdb_setup.specs.declared.fault.SetupFault.{SetupFault as SetupFaultName};
-ghost use Rattle.cdb_streams.specs.Streams.{FailsWhere};
-ghost use Rattle.cdb_streams.specs.Written.{IsWritten};
-ghost use Rattle.cdb_streams.specs.declared.fault.PlayFault.TheVariants as play;
+ghost use Rattle.std.specs.Prelude.{◌≡◌, ◌≤◌, length, IfErr, IfOk};
+ghost use Rattle.cdb_agreement.specs.Algorithms.{rules};
+ghost use Rattle.cdb_base.specs.Limits.{MAX_ENTRIES};
+ghost use Rattle.cdb_program.specs.Questions.{Answers, AsksFiles, IsAnswerTo, IsFaultOfAnswer, IsFaultOfQuestion};
+ghost use Rattle.cdb_rules.specs.ByRules.{IsInOrder};
 
 use crate::fault::{Fault, of_answer};
 use crate::files::{Files, read_two};
+use crate::made::write_made;
 use crate::world::World;
 use cdb_any_run::AnyRun;
 use cdb_base::Question;
 use cdb_clocks::clocks;
-use cdb_draw::draw;
-use cdb_explain::{AnswerFault, explain};
-use cdb_page::write_page;
+use cdb_draw::picture_for;
+use cdb_explain::{AnswerFault, explain_step, run_left_by};
+use cdb_page::page_of_few;
+use cdb_page::parts::Refresh;
+use cdb_rules::Trace;
 use cdb_slice::slice;
-use cdb_streams::{Bytes, Sink, Source};
-use cdb_trail::write_trail;
+use cdb_streams::{Sink, Source};
+use cdb_trail::trail_to_step;
 use std::alloc::Global;
 
-/// Writes what a question of the run that a script leaves is answered with.
-fn answer<R: Source, W: Sink>(
+/// The text that answers a question of a run.
+pub(crate) fn text_about(
     alloc: Global,
-    setup: &[u8],
-    script: &mut R,
+    run: &Trace,
     question: Question,
-    out: &mut W,
-) -> Result<(), AnswerFault>
-    ensures wrote { IsWritten W.stream (question_ending question result) out.old out.new
-        (Answers setup.now question (R.stream script.old) (R.stream script.new)) }
-    ensures fault { IfErr result
-        (IsFaultOfQuestion setup.now question (R.stream script.old) (R.stream script.new)) }
-    ensures unread { (fault : SetupFaultName) →
-        result ≡ Err (of_play (play.Setup fault)) → script.new ≡ script.old }
-    ensures read { FailsWhere R.stream (result ≡ Err (of_play play.Read)) script.old script.new }
+) -> Result<Vec<u8>, AnswerFault>
+    requires valid { IsInOrder rules run.now }
+    requires few { length run.now.history ≤ MAX_ENTRIES }
+    ensures text { IfOk result (λ text. IsAnswerTo question run.now text.items) }
+    ensures fault { IfErr result (IsFaultOfAnswer question run.now) }
 {
     match question {
-        Question::Explain(step) => {
-            explain::<AnyRun, R, W>(alloc, setup, script, step.p, step.k, out)
-        }
-        Question::Trail(step) => write_trail(alloc, setup, script, step.p, step.k, out),
-        Question::Draw { columns, step } => {
-            draw::<R, W>(alloc, setup, script, columns, step, out)
-        }
-        Question::Slice(step) => slice::<AnyRun, R, W>(alloc, setup, script, step, out),
-        Question::Clocks => clocks::<AnyRun, R, W>(alloc, setup, script, out),
-        Question::Page => write_page(alloc, setup, script, out),
+        Question::Explain(step) => explain_step::<AnyRun>(alloc, run, step.p, step.k),
+        Question::Trail(step) => trail_to_step(alloc, run, step.p, step.k),
+        Question::Draw { columns, step } => picture_for(alloc, run, columns, step),
+        Question::Slice(step) => slice::<AnyRun>(alloc, run, step),
+        Question::Clocks => Ok(clocks::<AnyRun>(alloc, run)?),
+        Question::Page => page_of_few(alloc, run, Refresh::Never),
     }
 }
 
+/// The text that answers a question of the run that a script leaves.
+fn answer(
+    alloc: Global,
+    setup: &[u8],
+    script: &[u8],
+    question: Question,
+) -> Result<Vec<u8>, AnswerFault>
+    ensures text { IfOk result (λ text. Answers question setup.now script.now text.items) }
+    ensures fault { IfErr result (IsFaultOfQuestion question setup.now script.now) }
+{
+    let run = run_left_by::<AnyRun>(alloc, setup, script)?;
+    text_about(alloc, &run, question)
+}
+
 /// Answers a question of the run that a script file leaves on a setup file.
+///
+/// Promise: The setup is read first, then the whole script, then all its lines, and the text of an answer is whole
+/// before any of it is written. So after a fault nothing was written, but after a failed write a beginning.
 pub fn answer_files<'a, F: Files + Drop, I: Source + Drop, O: Sink + Drop, E: Sink + Drop>(
     alloc: Global,
     setup: &'a str,
@@ -66,13 +75,6 @@ pub fn answer_files<'a, F: Files + Drop, I: Source + Drop, O: Sink + Drop, E: Si
     ensures saved { world.new.saved ≡ world.old.saved }
 {
     let (json, bytes) = read_two(alloc, &mut world.files, setup, script)?;
-    let mut commands = Bytes::new(bytes.as_slice());
-    let answered = answer(
-        alloc,
-        json.as_slice(),
-        &mut commands,
-        question,
-        &mut world.streams.output,
-    );
-    of_answer(answered, script)
+    let made = answer(alloc, json.as_slice(), bytes.as_slice(), question);
+    of_answer(write_made(alloc, made, &mut world.streams.output), script)
 }

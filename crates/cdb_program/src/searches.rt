@@ -1,15 +1,18 @@
 //! Searches on a setup file, and script files made small.
 
-ghost use Rattle.std.specs.Prelude.{◌≡◌};
-ghost use Rattle.cdb_program.specs.Searches.{SearchesFile, SearchesFor, ShrinksFiles, ShrinksTo};
+ghost use Rattle.std.specs.Prelude.{◌≡◌, IfErr, IfOk};
+ghost use Rattle.cdb_program.specs.Searches.{IsFaultOfShrunk, IsShrunkScript, SearchesFile, SearchesFor};
+ghost use Rattle.cdb_program.specs.Searches.{ShrinksFiles, ShrinksTo};
 
 use crate::fault::{Fault, of_answer};
 use crate::files::{Files, read_file, read_two};
+use crate::made::write_made;
 use crate::world::World;
 use cdb_any_run::AnyRun;
+use cdb_explain::{AnswerFault, run_left_by};
 use cdb_goal::Goal;
 use cdb_search::{Watch, search, shrink};
-use cdb_streams::{Bytes, Sink, Source};
+use cdb_streams::{Sink, Source};
 use std::alloc::Global;
 
 /// Shows how far a search has come.
@@ -43,21 +46,16 @@ fn search_for<'a, F: Files + Drop, I: Source + Drop, O: Sink + Drop, E: Sink + D
         files: &world.files,
         walks,
     };
-    let searched = search::<AnyRun, _, O>(
-        alloc,
-        json.as_slice(),
-        goal,
-        seed,
-        walks,
-        &progress,
-        &mut world.streams.output,
-    );
+    let found = search::<AnyRun, _>(alloc, json.as_slice(), goal, seed, walks, &progress);
     world.files.clear_progress();
-    of_answer(searched, setup)
+    of_answer(write_made(alloc, found, &mut world.streams.output), setup)
 }
 
 /// Searches for a run of a setup file in which the goal of this word holds, with this seed and at most this number of
 /// walks. A word that names no goal is refused before the file is opened.
+///
+/// Promise: The script of a search is whole before any of it is written. So after a fault nothing was written, but
+/// after a failed write a beginning.
 pub fn search_file<'a, F: Files + Drop, I: Source + Drop, O: Sink + Drop, E: Sink + Drop>(
     alloc: Global,
     setup: &'a str,
@@ -76,6 +74,15 @@ pub fn search_file<'a, F: Files + Drop, I: Source + Drop, O: Sink + Drop, E: Sin
     }
 }
 
+/// A small script of the run that a script leaves, after which a goal holds.
+fn shrunk(alloc: Global, setup: &[u8], script: &[u8], goal: Goal) -> Result<Vec<u8>, AnswerFault>
+    ensures text { IfOk result (λ text. IsShrunkScript goal setup.now script.now text.items) }
+    ensures fault { IfErr result (IsFaultOfShrunk goal setup.now script.now) }
+{
+    let run = run_left_by::<AnyRun>(alloc, setup, script)?;
+    shrink::<AnyRun>(alloc, &run, goal)
+}
+
 /// Makes a script file small on a run of a setup file, as long as this goal holds.
 fn shrink_to<'a, F: Files + Drop, I: Source + Drop, O: Sink + Drop, E: Sink + Drop>(
     alloc: Global,
@@ -90,19 +97,15 @@ fn shrink_to<'a, F: Files + Drop, I: Source + Drop, O: Sink + Drop, E: Sink + Dr
     ensures saved { world.new.saved ≡ world.old.saved }
 {
     let (json, bytes) = read_two(alloc, &mut world.files, setup, script)?;
-    let mut commands = Bytes::new(bytes.as_slice());
-    let shrunk = shrink::<AnyRun, Bytes, O>(
-        alloc,
-        json.as_slice(),
-        &mut commands,
-        goal,
-        &mut world.streams.output,
-    );
-    of_answer(shrunk, script)
+    let made = shrunk(alloc, json.as_slice(), bytes.as_slice(), goal);
+    of_answer(write_made(alloc, made, &mut world.streams.output), script)
 }
 
 /// Makes a script file small on a run of a setup file, as long as the goal of this word holds. A word that names no
 /// goal is refused before a file is opened.
+///
+/// Promise: A small script is whole before any of it is written. So after a fault nothing was written, but after a
+/// failed write a beginning.
 pub fn shrink_files<'a, F: Files + Drop, I: Source + Drop, O: Sink + Drop, E: Sink + Drop>(
     alloc: Global,
     setup: &'a str,

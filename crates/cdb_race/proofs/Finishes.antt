@@ -1,5 +1,5 @@
 -- From what a thread has done to what its seat has finished.
-use Rattle.std.proofs.Common.{◌≡◌, inl, inr, ℕ, List, None, refl, length, take, ap, ◌∙◌, subst, arith}
+use Rattle.std.proofs.Common.{◌≡◌, ⊎_elim, inl, inr, ℕ, List, None, refl, length, take, ap, ◌∙◌, subst, arith}
 use Rattle.std.proofs.lemmas.List.{take_all}
 use Rattle.cdb_commands.specs.ReplyView.{ReplyView}
 use Rattle.cdb_commands.specs.declared.command.Command.{Command}
@@ -16,10 +16,11 @@ use Rattle.cdb_shared.specs.declared.session.End.TheVariants.{All, Done, Stopped
 
 driven_out : (rules : Parts → Rules) (turns : ℕ) (seat : SeatView) (end : End) → EndsWell end
     → HasDriven rules turns seat end → IsDrivenOut seat.number turns (calls_of seat) (replies_to rules seat)
-driven_out rules turns seat end (inl is) h =
-    record { count = h.count; few = h.few; calls_are = h.calls; ended = inl (subst (λ (e : End). IsDriven e h.count turns (replies_to rules seat)) is h.ended) }
-driven_out rules turns seat end (inr is) h =
-    record { count = h.count; few = h.few; calls_are = h.calls; ended = inr (subst (λ (e : End). IsDriven e h.count turns (replies_to rules seat)) is h.ended) }
+driven_out rules turns seat end well h =
+    let ended = ⊎_elim
+    (λ (is : end ≡ All). inl (subst (λ (e : End). IsDriven e h.count turns (replies_to rules seat)) is h.ended))
+    (λ (is : end ≡ Done). inr (subst (λ (e : End). IsDriven e h.count turns (replies_to rules seat)) is h.ended)) well in
+    record { count = h.count; few = h.few; calls_are = h.calls; ended = ended }
 
 served_out : (rules : Parts → Rules) (commands : List Command) (seat : SeatView) (replied : List ReplyView) (end : End)
     → EndsWell end → HasServed rules commands seat replied end → (calls_of seat ≡ commands) × (replies_to rules seat ≡ replied)

@@ -18,17 +18,18 @@ use Rattle.cdb_race.specs.Promises.{HasRan, IsReady}
 use Rattle.cdb_race.specs.Races.{AreRepliesOf, AreSeatsOf, FillsJournal, HaveRan, IsRaced, IsUnderWay, replies_in}
 use Rattle.cdb_race.specs.Runs.{HasFinished, IsDrivenOut}
 use Rattle.cdb_race.specs.declared.plan.Plan.{Plan}
-use Rattle.cdb_race.specs.declared.threads.ThreadFault.TheVariants as fault
 use Rattle.cdb_race.specs.declared.worker.Ran.{Ran}
 use Rattle.cdb_race.proofs.Collected.{taken_at}
 use Rattle.cdb_race.proofs.Finishes.{ends_well, finished}
 use Rattle.cdb_rules.specs.Rules.{Rules}
 use Rattle.cdb_setup.specs.Parts.{Parts}
+use Rattle.cdb_shared.proofs.Ends.{some_of}
 use Rattle.cdb_shared.specs.Gates.{GateCall}
 use Rattle.cdb_shared.specs.Seats.{SeatView, AreFresh, RestsAt, IsKnownBy, fresh_seat}
 use Rattle.cdb_shared.specs.Sessions.{calls_of, replies_to}
 use Rattle.cdb_shared.specs.declared.session.End.{End}
 use Rattle.cdb_shared.specs.declared.session.End.TheVariants.{JournalFull}
+use Rattle.cdb_streams.specs.declared.fault.RaceFault.TheVariants as fault
 
 -- a full journal is the fault of a seat that met one
 met_full : (seat : ℕ) (end : End) → fault_at seat end ≡ Some fault.JournalFull → end ≡ JournalFull
@@ -37,10 +38,6 @@ met_full seat end has = grind (arith, common_steps, gets)
 pub all_ready : {shared : TableId} {plan : Plan} {setup : Parts} {seats : List SeatView}
     → AreFresh shared setup (seats_of plan) seats → All (λ seat. IsReady shared plan seat) seats
 all_ready new k d low = rw (new.each k d (omega (arith, new.many))) (record { rests = (refl, refl); new = refl; planned = omega (arith, new.many) })
-
-pub some_of : {T : Type 0} (rans : List (Ran T)) → 0 < length rans → Ran T
-some_of [] low = absurd (omega arith)
-some_of (ran ∷ rans) low = ran
 
 -- the commands and the answers of a seat whose journal is known
 own_known : (c : Journaled) (seat : SeatView) (n : ℕ) → seat.number ≡ n → IsKnownBy c seat → own n c.journal ≡ calls_of seat

@@ -10,25 +10,25 @@ use Rattle.cdb_race.specs.Faults.{fault_at, fault_in, IsAmongSeats, IsNotStopped
 use Rattle.cdb_race.specs.Plans.{seats_of}
 use Rattle.cdb_race.specs.Races.{AllPass, HaveRan}
 use Rattle.cdb_race.specs.declared.plan.Plan.{Plan}
-use Rattle.cdb_race.specs.declared.threads.ThreadFault.{ThreadFault}
-use Rattle.cdb_race.specs.declared.threads.ThreadFault.TheVariants as fault
 use Rattle.cdb_race.specs.declared.worker.Ran.{Ran}
 use Rattle.cdb_race.proofs.Outcomes.{has_ran, many}
 use Rattle.cdb_rules.specs.Rules.{Rules}
 use Rattle.cdb_setup.specs.Parts.{Parts, IsWithin}
+use Rattle.cdb_shared.proofs.Ends.{some_of}
 use Rattle.cdb_shared.specs.Gates.{GateCall}
 use Rattle.cdb_shared.specs.Seats.{SeatView, AreFresh, fresh_seat}
 use Rattle.cdb_shared.specs.declared.session.End.{End}
 use Rattle.cdb_shared.specs.declared.session.End.TheVariants.{Stopped}
+use Rattle.cdb_streams.specs.declared.fault.RaceFault.{RaceFault}
+use Rattle.cdb_streams.specs.declared.fault.RaceFault.TheVariants as fault
 
 -- what is not more is at most as many
 at_most : (count most : ℕ) → (most < count → ⊥) → count ≤ most
 at_most count most not_more = omega arith
 
 -- the fault of a session names its seat
-of_end : (n seat : ℕ) (end : End) (why : ThreadFault) → fault_at seat end ≡ Some why → IsWithin 1 n seat → IsAmongSeats n why
-of_end n seat end (fault.Stopped stopped) has within = let same : stopped ≡ seat = grind (arith, common_steps, gets) in rw same within
-of_end n seat end other has within = tt
+of_end : (n seat : ℕ) (end : End) (why : RaceFault) → fault_at seat end ≡ Some why → IsWithin 1 n seat → IsAmongSeats n why
+of_end n seat end why has within = grind (arith, common_steps, gets)
 
 module _ {T G : Type 0} {rules : Parts → Rules} {gate_calls : G → Option (List GateCall)} {passes : G → Bool} {gates : List G}
     {shared : TableId} {plan : Plan} {setup : Parts} {before : List SeatView} {rans : List (Ran T)}
@@ -44,14 +44,14 @@ module _ {T G : Type 0} {rules : Parts → Rules} {gate_calls : G → Option (Li
       ap (λ (r : Ran T). r.seat.number) (sym at) ∙ ap (λ i. (get_or rans i its).seat.number) (sym back) ∙ number ∙ omega (arith, within, so_many)
 
   -- and so does that of the least seat
-  pub of_last : (why : ThreadFault) → IsLastFault why rans → IsAmongSeats (seats_of plan) why
+  pub of_last : (why : RaceFault) → IsLastFault why rans → IsAmongSeats (seats_of plan) why
   of_last why last =
       let its = last.its in
       let number = number_at last.position its last.within last.at in
       of_end (seats_of plan) its.seat.number its.end why last.has (omega (arith, number, last.within, so_many), omega (arith, number))
 
   -- the last outcome with a fault is that of the least seat which has one
-  pub least_seat : (why : ThreadFault) → IsLastFault why rans → IsOfLeastSeat why rans
+  pub least_seat : (why : RaceFault) → IsLastFault why rans → IsOfLeastSeat why rans
   least_seat why last = record {
     its = last.its;
     ran = (last.position, last.within, last.at);
@@ -66,13 +66,9 @@ module _ {T G : Type 0} {rules : Parts → Rules} {gate_calls : G → Option (Li
 stopped : (seat n : ℕ) (end : End) → fault_at seat end ≡ Some (fault.Stopped n) → end ≡ Stopped
 stopped seat n end has = grind (arith, common_steps, gets)
 
-some_gate : {G : Type 0} (gates : List G) → 0 < length gates → G
-some_gate [] low = absurd (omega arith)
-some_gate (gate ∷ gates) low = gate
-
 -- where all gates let every call go on none stopped a session
 pub passes_or_threads : {G T : Type 0} {rules : Parts → Rules} {gate_calls : G → Option (List GateCall)} {passes : G → Bool} {gates : List G}
-    {setup : Parts} {turns : ℕ} {scripts : List (List Command)} (why : ThreadFault) → length gates ≡ setup.processes + length scripts
+    {setup : Parts} {turns : ℕ} {scripts : List (List Command)} (why : RaceFault) → length gates ≡ setup.processes + length scripts
     → IsFaultOfOne T rules gate_calls passes gates setup turns scripts why → AllPass passes gates → IsNotStopped why
 passes_or_threads (fault.Stopped seat) many (inl threads) all = threads
 passes_or_threads {gates = gates} {setup = setup} (fault.Stopped seat) many (inr it) all =
@@ -80,7 +76,7 @@ passes_or_threads {gates = gates} {setup = setup} (fault.Stopped seat) many (inr
     let its = least.its in
     let position = least.ran.0 in
     let low = least.ran.1 in
-    let first = some_gate gates (omega (arith, many, it.many, low, it.processes_are, ap length it.scripts_are)) in
+    let first = some_of gates (omega (arith, many, it.many, low, it.processes_are, ap length it.scripts_are)) in
     let ended = it.ended position its first low (fresh_seat it.shared (opened setup 0) 0) in
     let end : (get_or it.rans position its).end ≡ Stopped = ap (λ (r : Ran _). r.end) least.ran.2 ∙ stopped its.seat.number seat its.end least.has in
     ended.passed (all (length gates - 1 - position) first (omega (arith, many, it.many, low, it.processes_are, ap length it.scripts_are))) end

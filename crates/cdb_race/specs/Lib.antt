@@ -1,7 +1,6 @@
 -- what a reader of the contracts believes: what a race has done, and its faults
 pub mod Races
 pub mod Faults
-pub mod FaultTexts
 -- what the two are said by, also what a reader believes: the plan of the seats, and what one seat's thread does
 pub mod Plans
 pub mod Runs

@@ -12,4 +12,4 @@ mod threads;
 mod worker;
 
 pub use plan::Script;
-pub use threads::{Raced, ThreadFault, race};
+pub use threads::{Raced, race};

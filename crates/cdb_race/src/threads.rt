@@ -1,8 +1,7 @@
 //! Starting and joining the threads of a race.
 ghost use Rattle.std.specs.Prelude.{◌≡◌, ◌+◌, ◌<◌, ◌≤◌, length, vec_len, All, IfOk, IfErr, MatchOption, Err};
-ghost use Rattle.cdb_base.specs.Memory.{no_memory};
 ghost use Rattle.cdb_base.specs.Limits.{MAX_SEATS};
-ghost use Rattle.cdb_race.specs.Faults.{fault_in, AreWell, IsAmongSeats, IsFaultOfStart};
+ghost use Rattle.cdb_race.specs.Faults.{fault_in, out_of_memory, AreWell, IsAmongSeats, IsFaultOfStart};
 ghost use Rattle.cdb_race.specs.Faults.{IsFaultOfThreads, IsNotStopped, IsRoomFor, IsFaultOfOne};
 ghost use Rattle.cdb_race.specs.LastFault.{IsLastFault};
 ghost use Rattle.cdb_race.specs.Plans.{seats_of};
@@ -14,45 +13,17 @@ ghost use Rattle.cdb_shared.specs.Seats.{AreFresh, HasHeadline};
 use crate::plan::{Plan, Script};
 use crate::worker::{Ran, SeatPromise, run};
 use cdb_base::NoMemory;
-use cdb_base::start::{RefusedStart, start};
+use cdb_base::start::start;
 use cdb_control::{Control, OpenFault, Reply};
 use cdb_rules::Runs;
 use cdb_setup::Setup;
 use cdb_shared::{End, Gate, Seat, Shared};
+use cdb_streams::RaceFault;
 use std::alloc::Global;
-use std::error::Error;
 use std::snapshot::Snapshot;
 use std::sync::Wait;
+use std::thread;
 use std::thread::{PromisedHandle, Scope, Threads};
-use std::{fmt, thread};
-
-/// Why a race came to nothing.
-#[derive(Debug, Clone, Copy, PartialEq)]
-pub enum ThreadFault {
-    NoMemory(NoMemory),
-    JournalFull,
-    /// The start of a thread was refused.
-    Spawn(RefusedStart),
-    /// The gate of this seat stopped its session.
-    Stopped(u8),
-}
-
-impl fmt::Display for ThreadFault {
-    ghost use Rattle.std.specs.Prelude.{Some};
-    ghost use Rattle.cdb_race.specs.FaultTexts.{thread_fault_text};
-
-    ghost output = { λ fault. Some (thread_fault_text fault) };
-
-    fn fmt<W: fmt::Write>(&self, f: &mut fmt::Formatter<W>) -> fmt::Result {
-        f.write_str(match self {
-            ThreadFault::NoMemory(_) => "no memory",
-            ThreadFault::JournalFull => "journal full",
-            ThreadFault::Spawn(_) | ThreadFault::Stopped(_) => "no thread",
-        })
-    }
-}
-
-impl Error for ThreadFault {}
 
 /// Starts a thread for one seat.
 fn start_one<'s, E, T: Runs + Send + 's, G: Gate + Drop + Send + 's, R: Threads + Wait + Sync>(
@@ -63,7 +34,7 @@ fn start_one<'s, E, T: Runs + Send + 's, G: Gate + Drop + Send + 's, R: Threads 
     plan: Plan<'s>,
     seat: Seat<T>,
     gate: G,
-) -> Result<PromisedHandle<Ran<T>, SeatPromise<'s, T, G>>, ThreadFault>
+) -> Result<PromisedHandle<Ran<T>, SeatPromise<'s, T, G>>, RaceFault>
     requires { IsReady shared.now plan seat }
     ensures promise { IfOk result (λ handle. IsPromise plan.entry seat gate handle.promise) }
     ensures fault { IfErr result IsFaultOfStart }
@@ -82,7 +53,7 @@ fn start_one<'s, E, T: Runs + Send + 's, G: Gate + Drop + Send + 's, R: Threads 
             ensures ended { HasEndedAtGate G.calls G.passes gate seat result.seat result.end }
         { run(shared, rt, alloc, plan, seat, gate) },
     );
-    started.map_err(ThreadFault::Spawn)
+    started.map_err(RaceFault::Spawn)
 }
 
 /// Starts a thread for each seat, the last seat's first.
@@ -94,17 +65,14 @@ fn start_all<'s, E, T: Runs + Send + 's, G: Gate + Drop + Send + 's, R: Threads 
     plan: Plan<'s>,
     mut seats: Vec<Seat<T>>,
     mut gates: Vec<G>,
-) -> Result<Vec<PromisedHandle<Ran<T>, SeatPromise<'s, T, G>>>, ThreadFault>
+) -> Result<Vec<PromisedHandle<Ran<T>, SeatPromise<'s, T, G>>>, RaceFault>
     requires ready { All (λ seat. IsReady shared.now plan seat) seats.items }
     requires gates { vec_len gates ≡ vec_len seats }
     ensures count { IfOk result (λ handles. vec_len handles ≡ vec_len seats) }
     ensures each { IfOk result (λ handles. ArePromised plan.entry seats.items gates.items handles.items) }
     ensures fault { IfErr result IsFaultOfThreads }
 {
-    let mut handles = match Vec::with_capacity(alloc, seats.len()) {
-        Ok(handles) => handles,
-        Err(error) => return Err(ThreadFault::NoMemory(NoMemory::from(error))),
-    };
+    let mut handles = Vec::with_capacity(alloc, seats.len())?;
     while let Some(seat) = seats.pop() {
         let Some(gate) = gates.pop() else {
             unreachable!()
@@ -123,7 +91,7 @@ fn run_all<T: Runs + Send, G: Gate + Drop + Send, R: Threads + Wait + Sync>(
     plan: Plan<'_>,
     seats: Vec<Seat<T>>,
     gates: Vec<G>,
-) -> Result<Vec<Ran<T>>, ThreadFault>
+) -> Result<Vec<Ran<T>>, RaceFault>
     requires ready { All (λ seat. IsReady shared.now plan seat) seats.items }
     requires gates { vec_len gates ≡ vec_len seats }
     ensures ran { IfOk result
@@ -133,7 +101,7 @@ fn run_all<T: Runs + Send, G: Gate + Drop + Send, R: Threads + Wait + Sync>(
     thread::scope(
         thread::scope_env(),
         rt,
-        |scope| -> Result<Vec<Ran<T>>, ThreadFault>
+        |scope| -> Result<Vec<Ran<T>>, RaceFault>
             requires ready { All (λ seat. IsReady shared.now plan seat) seats.items }
             requires gates { vec_len gates ≡ vec_len seats }
             ensures ran { IfOk result
@@ -143,26 +111,26 @@ fn run_all<T: Runs + Send, G: Gate + Drop + Send, R: Threads + Wait + Sync>(
             let handles = start_all(scope, rt, alloc, shared, plan, seats, gates)?;
             match thread::join_promised(rt, handles) {
                 Ok(rans) => Ok(rans),
-                Err(error) => Err(ThreadFault::NoMemory(NoMemory::from(error))),
+                Err(error) => Err(RaceFault::from(NoMemory::from(error))),
             }
         },
     )
 }
 
 /// The fault of a seat whose session did not end well.
-fn fault_of<T: Runs>(ran: &Ran<T>) -> Option<ThreadFault>
+fn fault_of<T: Runs>(ran: &Ran<T>) -> Option<RaceFault>
     ensures { result ≡ fault_in ran.now }
 {
     match ran.end {
         End::All | End::Done => None,
-        End::Stopped => Some(ThreadFault::Stopped(ran.seat.number())),
-        End::NoMemory(refused) => Some(ThreadFault::NoMemory(refused)),
-        End::JournalFull => Some(ThreadFault::JournalFull),
+        End::Stopped => Some(RaceFault::Stopped(ran.seat.number())),
+        End::NoMemory(refused) => Some(RaceFault::from(refused)),
+        End::JournalFull => Some(RaceFault::JournalFull),
     }
 }
 
 /// The fault of the least seat that has one. The last seat's outcome comes first.
-fn first_fault<T: Runs>(rans: &[Ran<T>]) -> Option<ThreadFault>
+fn first_fault<T: Runs>(rans: &[Ran<T>]) -> Option<RaceFault>
     ensures { MatchOption result (AreWell rans.now) (λ fault. IsLastFault fault rans.now) }
 {
     for position in (0..rans.len()).rev() {
@@ -177,18 +145,12 @@ fn first_fault<T: Runs>(rans: &[Ran<T>]) -> Option<ThreadFault>
 fn room_for<T: Runs>(
     alloc: Global,
     count: usize,
-) -> Result<(Vec<Seat<T>>, Vec<Vec<Reply>>), ThreadFault>
-    ensures fault { IfErr result (λ fault. fault ≡ ThreadFault.NoMemory no_memory) }
+) -> Result<(Vec<Seat<T>>, Vec<Vec<Reply>>), RaceFault>
+    ensures fault { IfErr result (λ fault. fault ≡ out_of_memory) }
     ensures room { IfOk result (λ room. IsRoomFor count room.0 room.1) }
 {
-    let seats = match Vec::with_capacity(alloc, count) {
-        Ok(seats) => seats,
-        Err(error) => return Err(ThreadFault::NoMemory(NoMemory::from(error))),
-    };
-    let replied = match Vec::with_capacity(alloc, count) {
-        Ok(replied) => replied,
-        Err(error) => return Err(ThreadFault::NoMemory(NoMemory::from(error))),
-    };
+    let seats = Vec::with_capacity(alloc, count)?;
+    let replied = Vec::with_capacity(alloc, count)?;
     Ok((seats, replied))
 }
 
@@ -234,22 +196,22 @@ fn open_shared<T: Runs, R: Wait>(
     alloc: Global,
     setup: Setup,
     plan: Plan<'_>,
-) -> Result<(Shared<T>, Vec<Seat<T>>), ThreadFault>
+) -> Result<(Shared<T>, Vec<Seat<T>>), RaceFault>
     requires some { 1 ≤ seats_of plan }
     requires fits { seats_of plan ≤ MAX_SEATS }
     ensures seats { IfOk result (λ r. AreFresh r.0 setup (seats_of plan.entry) r.1.items) }
-    ensures fault { IfErr result (λ fault. fault ≡ ThreadFault.NoMemory no_memory) }
+    ensures fault { IfErr result (λ fault. fault ≡ out_of_memory) }
 {
     let control = match Control::open(alloc, setup, plan.seats()) {
         Ok(control) => control,
-        Err(OpenFault::NoMemory(refused)) => return Err(ThreadFault::NoMemory(refused)),
+        Err(OpenFault::NoMemory(refused)) => return Err(RaceFault::from(refused)),
         Err(OpenFault::Seats) => unreachable!(),
     };
     match Shared::open(rt, alloc, control) {
         Ok(opened) => Ok(opened),
         Err((control, refused)) => {
             control.close();
-            Err(ThreadFault::NoMemory(refused))
+            Err(RaceFault::from(refused))
         }
     }
 }
@@ -272,14 +234,14 @@ pub fn race<T: Runs + Send, G: Gate + Drop + Send, R: Threads + Wait + Sync>(
     turns: u32,
     scripts: &[Script],
     gates: Vec<G>,
-) -> Result<Raced<T>, ThreadFault>
+) -> Result<Raced<T>, RaceFault>
     requires fits { setup.processes + length scripts.now ≤ MAX_SEATS }
     requires gates { vec_len gates ≡ setup.processes + length scripts.now }
     ensures raced { IfOk result (HasRaced T.rules setup turns scripts.now) }
     ensures headline { IfOk result (λ r. HasHeadline T.rules T.same_state r.control) }
     ensures fault { IfErr result (IsAmongSeats (setup.processes + length scripts.now)) }
-    ensures full { result ≡ Err ThreadFault.JournalFull → FillsJournal setup turns scripts.now }
-    ensures most { result ≡ Err ThreadFault.JournalFull → MayFill setup turns scripts.now }
+    ensures full { result ≡ Err RaceFault.JournalFull → FillsJournal setup turns scripts.now }
+    ensures most { result ≡ Err RaceFault.JournalFull → MayFill setup turns scripts.now }
     ensures of_one { IfErr result
         (IsFaultOfOne T T.rules G.calls G.passes gates.items setup turns scripts.now) }
     ensures passes { AllPass G.passes gates.items → IfErr result IsNotStopped }

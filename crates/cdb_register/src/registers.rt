@@ -1,6 +1,6 @@
 //! The registers of a run.
 
-ghost use Rattle.std.specs.Prelude.{◌≡◌, ◌≤◌, Some, IfOk, is_some};
+ghost use Rattle.std.specs.Prelude.{◌≡◌, ◌≤◌, ◌++◌, Some, IfOk, is_some, map, option_to_list};
 ghost use Rattle.std.specs.Option.{option_copied};
 ghost use Rattle.cdb_base.specs.Limits.{MAX_PROCESSES};
 ghost use Rattle.cdb_register.specs.Registers.{fresh_registers, register_of, cell_of, writes_of};
@@ -8,7 +8,7 @@ ghost use Rattle.cdb_register.specs.Registers.{HasRegister, MayBeWritten, HasWri
 ghost use Rattle.cdb_register.specs.Registers.{after_write, after_restore, IsBeforeWrite};
 
 use crate::register_state::RegisterState;
-use cdb_base::{Cell, NoMemory, Reg};
+use cdb_base::{Cell, NoMemory, Reg, Val};
 use std::alloc::Global;
 use std::marker::Model;
 
@@ -84,6 +84,24 @@ impl Registers {
         }
     }
 
+    /// What the registers of the processes hold, in order of number, and then that of the decision. `NoMemory` if an
+    /// allocation fails.
+    pub fn cells(&self, alloc: Global) -> Result<Vec<Cell>, NoMemory>
+        ensures { IfOk result (λ cells. cells.items
+            ≡ map (λ state. state.cell) (self.now.of_processes ++ option_to_list self.now.of_decision)) }
+    {
+        // Names the type inside a cell, which the check finds in no other part of the function.
+        let _value: Option<Val> = None;
+        let mut cells = Vec::new(alloc);
+        for state in &self.of_processes {
+            cells.push(state.cell)?;
+        }
+        if let Some(state) = self.of_decision {
+            cells.push(state.cell)?;
+        }
+        Ok(cells)
+    }
+
     /// Writes a cell to a register that is there and of which fewer than 999,999 writes stand. Returns
     /// the cell that was overwritten.
     pub fn write(&mut self, register: Reg, cell: Cell) -> Cell
@@ -124,8 +142,8 @@ impl Registers {
         }
     }
 
-    /// What a register holds, if there is such a register.
-    fn state(&self, register: Reg) -> Option<&RegisterState>
+    /// What a register holds, with the number of its writes that stand, if there is such a register.
+    pub fn state(&self, register: Reg) -> Option<&RegisterState>
         ensures { option_copied result ≡ register_of self.now register }
     {
         match register {

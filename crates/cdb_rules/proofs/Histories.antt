@@ -1,5 +1,5 @@
 -- What follows for histories from that independent events commute.
-use Rattle.std.proofs.Common.{arith, ◌≡◌, ℕ, List, [], ◌∷◌, ◌++◌, Some, IsSome, refl, subst, sym, ◌∙◌}
+use Rattle.std.proofs.Common.{arith, ◌≡◌, ℕ, List, [], ◌∷◌, ◌++◌, Some, IsSome, subst, sym, ◌∙◌}
 use Rattle.std.proofs.lemmas.Grind.{common_steps}
 use Rattle.std.proofs.lemmas.Option.{gets}
 use Rattle.cdb_base.specs.Positions.{nth}
@@ -10,8 +10,8 @@ use Rattle.cdb_causal.specs.Exchange.{IsExchanged}
 use Rattle.cdb_causal.specs.Rollback.{without, remaining, rolled_back}
 use Rattle.cdb_causal.proofs.Reaches.{reached_exchanged, reached_free, reached_rollback, reached_front_some, reached_push}
 use Rattle.cdb_rules.specs.State.{Machine, start}
-use Rattle.cdb_rules.specs.Step.{after, fold, IsEnabled, IsValid, state_of}
-use Rattle.cdb_rules.proofs.Commutes.{after_commutes}
+use Rattle.cdb_rules.specs.Step.{after, fold, IsValid, state_of}
+use Rattle.cdb_rules.proofs.Taken.{after_commutes}
 
 module _ {L : Type 0} (machine : Machine L) where
   pub fold_exchanged : (history other : List Event) → IsExchanged depends history other → fold machine history ≡ fold machine other
@@ -36,10 +36,6 @@ module _ {L : Type 0} (machine : Machine L) where
       let left = without history at in
       rw (reached_state left (undo_valid history at event stands free valid)) at
       (sym (reached_push (after machine) (start machine) left event) ∙ fold_free history at event stands free ∙ reached_state history valid)
-
-  pub undo_enabled : (history : List Event) (at : ℕ) (event : Event) → nth history at ≡ Some event
-      → IsFree depends history at → IsValid machine history → IsEnabled machine (state_of machine (without history at)) event
-  undo_enabled history at event stands free valid = subst IsSome (sym (undo_again history at event stands free valid)) refl
 
   pub rollback_redo : (history : List Event) (at : ℕ) → fold machine (remaining depends history at ++ rolled_back depends history at) ≡ fold machine history
   rollback_redo history at = reached_rollback (after machine) depends (after_commutes machine) (start machine) history at

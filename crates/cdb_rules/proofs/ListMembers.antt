@@ -1,12 +1,11 @@
 -- What stands in lists that are made of others.
-use Rattle.std.proofs.lemmas.Bool.{cases_Bool, or_parts}
 use Rattle.std.proofs.lemmas.Grind.{common_steps}
 use Rattle.std.proofs.lemmas.Option.{gets}
-use Rattle.std.proofs.Common.{◌≡◌, ℕ, suc, ◌<◌, Bool, true, false, ◌⊎◌, inl, inr, ⊎_elim, List, [], ◌∷◌, ◌++◌, Some, length, take, map, filter, cond, slice_get}
-use Rattle.std.proofs.Common.{refl, sym, ap, ◌∙◌, arith}
+use Rattle.std.proofs.Common.{◌≡◌, ℕ, suc, ◌<◌, Bool, true, false, ◌⊎◌, inl, inr, ⊎_elim, List, [], ◌∷◌, ◌++◌, Some, length, take, map, filter, slice_get}
+use Rattle.std.proofs.Common.{refl, sym, arith}
 use Rattle.std.specs.List.{list_any, flat_map}
 use Rattle.cdb_causal.specs.Exchange.{IsIn, here, there}
-use Rattle.cdb_rules.proofs.NamedEvents.{in_cases}
+use Rattle.cdb_rules.proofs.ValidHistories.{in_cases}
 
 module _ {E : Type 0} where
   pub nothing_in : (x : E) → IsIn x [] → ⊥
@@ -33,19 +32,12 @@ module _ {E : Type 0} where
     pub in_filter : (x : E) (xs : List E) → IsIn x xs → test x ≡ true → IsIn x (filter test xs)
     in_filter x _ here holds = rw holds here
     in_filter x _ (there {other = y} {rest = ys} i) holds =
-        let rest = in_filter x ys i holds in
-        elim (test y) as (λ b. IsIn x (cond b (y ∷ filter test ys) (filter test ys))) [ true ↦ there rest | false ↦ rest ]
+        let rest = in_filter x ys i holds in grind (arith, common_steps, there)
 
     pub from_filter : (x : E) (xs : List E) → IsIn x (filter test xs) → IsIn x xs × (test x ≡ true)
     from_filter x [] i = absurd (nothing_in x i)
     from_filter x (y ∷ ys) i =
-        elim (cases_Bool (test y)) [
-          | inl e ↦ ⊎_elim
-              (λ same. rw same (here, e))
-              (λ later. let rest = from_filter x ys later in (there rest.0, rest.1))
-              (in_cases x y (filter test ys) (rw e at i))
-          | inr e ↦ let rest = from_filter x ys (rw e at i) in (there rest.0, rest.1)
-        ]
+        let rest = from_filter x ys in let cases = in_cases x y (filter test ys) in grind (arith, common_steps, here, there)
 
     pub filter_none : (xs : List E) → ((x : E) → IsIn x xs → test x ≡ false) → filter test xs ≡ []
     filter_none [] none = refl
@@ -54,8 +46,7 @@ module _ {E : Type 0} where
     pub any_none : (xs : List E) → list_any test xs ≡ false → (x : E) → IsIn x xs → test x ≡ false
     any_none [] none x i = absurd (nothing_in x i)
     any_none (y ∷ ys) none x i =
-        let parts = or_parts (test y) (list_any test ys) none in
-        ⊎_elim (λ same. ap test same ∙ parts.0) (any_none ys parts.1 x) (in_cases x y ys i)
+        let rest = λ (h : list_any test ys ≡ false). any_none ys h x in let cases = in_cases x y ys i in grind (arith, common_steps)
 
   -- a list up to a position, with what stands there
   pub get-take : (xs : List E) (j k : ℕ) → k < j → slice_get (take j xs) k ≡ slice_get xs k

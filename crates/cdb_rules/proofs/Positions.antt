@@ -1,5 +1,5 @@
 -- What stands at a position of a list after a write to another position, or to that one.
-use Rattle.std.proofs.Common.{arith, map, ◌≡◌, ℕ, zero, suc, ◌+◌, ◌≤◌, ◌≢◌, List, [], ◌∷◌, ◌++◌, Some, option_map, length, slice_get, slice_set, refl, sym, ap}
+use Rattle.std.proofs.Common.{arith, map, ◌≡◌, ℕ, zero, suc, ◌+◌, ◌≢◌, List, [], ◌∷◌, ◌++◌, Some, option_map, length, slice_get, slice_set, refl, sym, ap}
 use Rattle.std.proofs.Common.{◌∙◌, add-one}
 use Rattle.std.proofs.lemmas.Grind.{common_steps}
 use Rattle.std.proofs.lemmas.Option.{gets}
@@ -41,9 +41,6 @@ module _ {A : Type 0} where
 
   pub nth_push_back : (xs : List A) (a : A) (j : ℕ) → j ≡ length xs + 1 → nth (xs ++ a ∷ []) j ≡ Some a
   nth_push_back xs a j e = grind (arith, common_steps, gets)
-
-  pub nth_within : (xs : List A) (j : ℕ) (x : A) → nth xs j ≡ Some x → j ≤ length xs
-  nth_within xs j x h = grind (arith, common_steps, gets)
 
   -- what stands there, written again
   pub set_nth_same : (xs : List A) (i : ℕ) (a : A) → nth xs i ≡ Some a → set_nth xs i a ≡ xs

@@ -61,44 +61,31 @@ stepped local alive queries sent received kind writes =
 abbrev sender : ProcessState ℕ
 sender = record (fresh_process 0) { sent = payload ∷ [] }
 
--- one that would write
-abbrev writer : ProcessState ℕ
-writer = fresh_process 1
+-- the state after the k-th step of process 1 of that kind, where it stands so
+abbrev step : ProcessState ℕ → ℕ → Kind → Option (RunState ℕ)
+step process k kind = after machine (stands process registers) (Step 1 k kind)
 
-query : after machine (stands (fresh_process 0) registers) (Step 1 1 (Query 2)) ≡ Some (stands (stepped 1 true 1 [] set.empty (Query 2) None) registers)
-query = refl
+abbrev fresh : ProcessState ℕ
+fresh = fresh_process 0
 
-send : after machine (stands (fresh_process 0) registers) (Step 1 1 (Send 1))
-    ≡ Some (stands (stepped 1 true 0 (payload ∷ []) set.empty (Send 1) None) registers)
-send = refl
-
-receive : after machine (stands sender registers) (Step 1 1 (Recv 1 1))
-    ≡ Some (stands (stepped 1 true 0 (payload ∷ []) (set.insert set.empty (message_name 1 1)) (Recv 1 1) None) registers)
-receive = simp (set.contains-empty name_cmp, set.contains-empty copy_cmp)
-
-unsent : after machine (stands sender registers) (Step 1 1 (Recv 1 2)) ≡ None
-unsent = simp (set.contains-empty name_cmp, set.contains-empty copy_cmp)
-
-read : after machine (stands (fresh_process 0) registers) (Step 1 1 (Read (R 2)))
-    ≡ Some (stands (stepped 1 true 0 [] set.empty (Read (R 2)) (Some 0)) registers)
-read = refl
-
-write : after machine (stands writer registers) (Step 1 1 (Write (R 1)))
-    ≡ Some (stands (stepped 2 true 0 [] set.empty (Write (R 1)) (Some 0)) (after_write registers (R 1) cell))
-write = refl
-
-local : after machine (stands (fresh_process 0) registers) (Step 1 1 Local) ≡ Some (stands (stepped 1 true 0 [] set.empty Local None) registers)
-local = refl
-
-learn : after machine (stands (fresh_process 0) registers) (Step 1 1 Learn) ≡ Some (stands (stepped 1 true 0 [] set.empty Learn None) registers)
-learn = refl
-
-crash : after machine (stands (fresh_process 0) registers) (Step 1 1 Crash) ≡ Some (stands (stepped 0 false 0 [] set.empty Crash None) registers)
-crash = refl
+each_kind : (step fresh 1 (Query 2) ≡ Some (stands (stepped 1 true 1 [] set.empty (Query 2) None) registers))
+    × (step fresh 1 (Send 1) ≡ Some (stands (stepped 1 true 0 (payload ∷ []) set.empty (Send 1) None) registers))
+    × (step fresh 1 (Read (R 2)) ≡ Some (stands (stepped 1 true 0 [] set.empty (Read (R 2)) (Some 0)) registers))
+    × (step (fresh_process 1) 1 (Write (R 1))
+    ≡ Some (stands (stepped 2 true 0 [] set.empty (Write (R 1)) (Some 0)) (after_write registers (R 1) cell)))
+    × (step fresh 1 Local ≡ Some (stands (stepped 1 true 0 [] set.empty Local None) registers))
+    × (step fresh 1 Learn ≡ Some (stands (stepped 1 true 0 [] set.empty Learn None) registers))
+    × (step fresh 1 Crash ≡ Some (stands (stepped 0 false 0 [] set.empty Crash None) registers))
+each_kind = (refl, refl, refl, refl, refl, refl, refl)
 
 -- the second step is not the first
-numbered : after machine (stands (fresh_process 0) registers) (Step 1 2 Local) ≡ None
+numbered : step fresh 2 Local ≡ None
 numbered = refl
+
+receive : (step sender 1 (Recv 1 1)
+    ≡ Some (stands (stepped 1 true 0 (payload ∷ []) (set.insert set.empty (message_name 1 1)) (Recv 1 1) None) registers))
+    × (step sender 1 (Recv 1 2) ≡ None)
+receive = (simp (set.contains-empty name_cmp, set.contains-empty copy_cmp), simp (set.contains-empty name_cmp, set.contains-empty copy_cmp))
 
 loss : after machine (stands sender registers) (Lost (copy_name (message_name 1 1) 2))
     ≡ Some (record (stands sender registers) { lost = set.insert set.empty (copy_name (message_name 1 1) 2) })

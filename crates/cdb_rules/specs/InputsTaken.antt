@@ -1,4 +1,4 @@
--- A step as the code takes it: what it meets outside of its process, what its machine is given, and what it leaves.
+-- A step: what it meets outside of its process, what its machine is given, and what it leaves.
 use Rattle.std.specs.Prelude.{ℕ, ◌+◌, Bool, false, Option, Some, None, option_map}
 use Rattle.std.specs.Prelude.{if◌then◌else◌, ◌≡◌, ◌<◌, ◌≤◌, length, IsTrue}
 use Rattle.cdb_base.specs.declared.event.Kind.{Kind}

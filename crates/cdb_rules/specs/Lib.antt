@@ -1,5 +1,6 @@
 -- what a reader of the contracts believes: the state of a run, its steps, what is refused, and what each call returns
 pub mod State
+pub mod InputsTaken
 pub mod Step
 pub mod Mail
 pub mod Machines
@@ -19,5 +20,3 @@ pub mod Flags
 -- the laws: what the rules keep, agreement and validity
 pub mod Lawful
 pub mod Agreement
--- what the code keeps for itself: a step as it is taken
-pub mod InputsTaken

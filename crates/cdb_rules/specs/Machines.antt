@@ -1,7 +1,6 @@
 -- The machine of a run: a table at a setup.
 use Rattle.std.specs.Prelude.{ℕ, suc, Bool, true, false, ◌==◌, List, [], ◌∷◌, map}
-use Rattle.cdb_process.specs.Process.{QueryDependsOnStateAlone, RecvDependsOnStateAlone}
-use Rattle.cdb_process.specs.Process.{WishNamesSend, WishNamesRead, WishNamesWrite, WishNamesLocal}
+use Rattle.cdb_process.specs.Process as process
 use Rattle.cdb_process.specs.Table.{Table}
 use Rattle.cdb_rules.specs.State.{Machine, fresh_progress}
 use Rattle.cdb_rules.specs.declared.progress.Progress.{Progress}
@@ -34,13 +33,8 @@ machine_of table setup =
     }
 
 -- what the machine of a process keeps to
-pub record IsLawful {L : Type 0} (machine : Machine L) : Type 0 where
-  pub query : QueryDependsOnStateAlone machine.next machine.accepts_query
-  pub recv : RecvDependsOnStateAlone machine.next machine.accepts_receive
-  pub send : WishNamesSend machine.next machine.wish
-  pub read : WishNamesRead machine.next machine.wish
-  pub write : WishNamesWrite machine.next machine.wish
-  pub local : WishNamesLocal machine.next machine.wish
+abbrev pub IsLawful : {L : Type 0} → Machine L → Type 0
+IsLawful machine = process.IsLawful machine.next machine.accepts_query machine.accepts_receive machine.wish
 
 -- how far each process has come before its first step
 abbrev pub progress_at_start : {Local : Type 0} → Table Local → Parts → List (Progress Local)

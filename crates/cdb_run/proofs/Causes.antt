@@ -1,10 +1,10 @@
 -- The direct causes of an event, sought by process, are those that are looked for in the history.
 use Rattle.std.proofs.lemmas.Grind.{common_steps}
 use Rattle.std.proofs.lemmas.Option.{gets}
-use Rattle.std.proofs.Common.{◌≡◌, ℕ, zero, suc, ◌+◌, ◌<◌, ◌≤◌, true, ◌&&◌, ◌==◌, inl, inr, ⊎_elim, List, [], ◌∷◌, ◌++◌, Some, length, take}
-use Rattle.std.proofs.Common.{slice_index_or, ◌-◌, drop, map, filter, slice_get, refl, sym, ap, ap₂, ◌∙◌, subst, arith}
+use Rattle.std.proofs.Common.{◌≡◌, ℕ, zero, suc, ◌+◌, ◌<◌, ◌≤◌, true, ◌↔◌, ◌&&◌, inl, inr, ◌⊎◌, ⊎_elim, List, [], ◌∷◌, ◌++◌, Some, length, take}
+use Rattle.std.proofs.Common.{slice_index_or, ◌-◌, drop, map, filter, slice_get, refl, sym, ap, ap₂, ◌∙◌, subst, append_assoc, append-nil, eq-eqb, arith}
 use Rattle.std.proofs.lemmas.Bool.{cases_Bool}
-use Rattle.std.proofs.lemmas.Bool.Decides.{nat_tests}
+use Rattle.std.proofs.lemmas.List.{length_push, take-append-drop}
 use Rattle.std.proofs.lemmas.Option.{none-some, same_Some}
 use Rattle.std.specs.List.{flat_map}
 use Rattle.cdb_base.specs.Event.{event_name, is_step_of}
@@ -19,15 +19,15 @@ use Rattle.cdb_causal.specs.DirectDependents.{is_direct}
 use Rattle.cdb_causal.specs.Exchange.{IsIn, here, there}
 use Rattle.cdb_causal.specs.Causality.{IsLink, IsDirectCause}
 use Rattle.cdb_causal.specs.Rollback.{events_before}
-use Rattle.cdb_causal.proofs.DirectByList.{direct_by_list}
-use Rattle.cdb_causal.proofs.Lists.{nth_within}
-use Rattle.cdb_causal.proofs.Walks.{link_at}
+use Rattle.cdb_causal.proofs.Counts.{causes_stay_with}
+use Rattle.cdb_causal.proofs.Walks.{direct_by_list}
+use Rattle.cdb_causal.proofs.Lists.{drop_from, nth_within}
 use Rattle.cdb_rules.specs.State.{Machine}
 use Rattle.cdb_rules.specs.Step.{IsValid}
 use Rattle.cdb_rules.specs.Undo.{direct_among}
 use Rattle.cdb_rules.proofs.ListMembers.{nothing_in, position_in, in_filter, from_filter, filter_none, any_none, length_up_to, in_map}
 use Rattle.cdb_rules.proofs.ListMembers.{from_map, in_flat, from_flat}
-use Rattle.cdb_rules.proofs.NamedEvents.{in_cases, in_position, of_processes, loss_free}
+use Rattle.cdb_rules.proofs.ValidHistories.{in_cases, in_position, of_processes, loss_free}
 
 -- Two rows of names with the same members, both in order, are one.
 
@@ -68,9 +68,7 @@ rising_names (x ∷ xs) order = (
 
 -- at most one event
 abbrev IsShort : List Event → Type 0
-IsShort [] = Unit {0}
-IsShort (x ∷ []) = Unit {0}
-IsShort (x ∷ y ∷ ys) = ⊥
+IsShort found = (found ≡ []) ⊎ ((x : Event) × (found ≡ x ∷ []))
 
 -- The direct causes among the events before an event: of each process there is at most one.
 
@@ -111,11 +109,11 @@ module _ (effect : Event) where
       grind (arith, common_steps, any_none (λ x. depends cause x && depends x effect) between))
 
   one_of_process : (p : ℕ) (earlier : List Event) → IsShort (filter (is_step_of p) (direct_among earlier effect))
-  one_of_process p [] = tt
+  one_of_process p [] = inl refl
   one_of_process p (cause ∷ between) =
       elim (cases_Bool (is_direct depends cause between effect)) [
         | inl direct ↦ rw direct (elim (cases_Bool (is_step_of p cause)) [
-          | inl of_p ↦ rw (of_p, no_other p cause between of_p direct) tt
+          | inl of_p ↦ rw (of_p, no_other p cause between of_p direct) (inr (cause, refl))
           | inr other ↦ rw other (one_of_process p between)
         ])
         | inr indirect ↦ rw indirect (one_of_process p between)
@@ -157,18 +155,17 @@ module _ (events : List Event) where
   module _ (short : (p : ℕ) → IsShort (of_process p)) where
     row_rises : (low : ℕ) (ps : List ℕ) → Rises low ps → IsRising (row ps)
     row_rises low [] rises = tt
-    row_rises low (p ∷ ps) rises = by (row_rises p ps rises.1) (of_process p) refl (short p)
-      where
-        by : IsRising (row ps) → (found : List Event) → of_process p ≡ found → IsShort found → IsRising (map event_name (found ++ flat_map of_process ps))
-        by rest [] is s = rest
-        by rest (x ∷ []) is s = (
-          λ other i.
-              let r = in_row ps other i in
-              let of_p = (from_filter (is_step_of p) x events (subst (IsIn x) (sym is) here)).1 in
-              subst (ComesBefore (event_name x)) r.5 (steps_in_order p r.0 x r.1 of_p r.4 (above p ps rises.1 r.0 r.2)),
-          rest,
-        )
-        by rest (x ∷ y ∷ ys) is s = absurd s
+    row_rises low (p ∷ ps) rises =
+        elim (short p) [
+          | inl none ↦ rw none (row_rises p ps rises.1)
+          | inr (x, one) ↦ rw one (
+            λ other i.
+                let r = in_row ps other i in
+                let of_p = (from_filter (is_step_of p) x events (rw one here)).1 in
+                subst (ComesBefore (event_name x)) r.5 (steps_in_order p r.0 x r.1 of_p r.4 (above p ps rises.1 r.0 r.2)),
+            row_rises p ps rises.1,
+          )
+        ]
 
 processes_rise : Rises 0 all_processes
 unfolding all_processes
@@ -186,82 +183,70 @@ is_process : (p : ℕ) → 1 ≤ p → p ≤ 9 → IsIn p all_processes
 unfolding all_processes
 is_process p low high = let at : nth all_processes p ≡ Some p = grind (arith, gets) in in_position all_processes p p at
 
--- Direct causes in a list and in its front.
-
-module _ (one other : List Event) (j : ℕ) (agree : (k : ℕ) → k ≤ j → nth one k ≡ nth other k) where
-  link_along : (i k : ℕ) → k ≤ j → IsLink depends one i k → IsLink depends other i k
-  link_along i k last l =
-      let later = l.later in
-      link_at depends other i k l.cause l.effect (sym (agree i (omega (arith, later, last))) ∙ l.at_cause) (sym (agree k last) ∙ l.at_effect) later l.linked
-
-direct_along : (one other : List Event) (j : ℕ) → ((k : ℕ) → k ≤ j → nth one k ≡ nth other k) → (i : ℕ) → IsDirectCause depends one i j
-    → IsDirectCause depends other i j
-direct_along one other j agree i d =
-    record {
-      link = link_along one other j agree i j (omega arith) d.link;
-      nothing_between = λ k first second.
-          let before = second.later in
-          d.nothing_between k
-          (link_along other one j (λ l last. sym (agree l last)) i k (omega (arith, before)) first)
-          (link_along other one j (λ l last. sym (agree l last)) k j (omega arith) second);
-    }
+-- the direct causes in a history are those in its front
+prefix_causes : (rest front : List Event) (i j : ℕ) → j ≤ length front → IsDirectCause depends (front ++ rest) i j ↔ IsDirectCause depends front i j
+prefix_causes [] front i j within = rw (append-nil front) ((λ d. d), (λ d. d))
+prefix_causes (x ∷ rest) front i j within =
+    let longer = length_push front x in
+    let more = prefix_causes rest (front ++ x ∷ []) i j (omega (arith, within, longer)) in
+    let one = causes_stay_with depends front x i j within in
+    rw (← append_assoc front (x ∷ []) rest) ((λ d. one.0 (more.0 d)), (λ d. more.1 (one.1 d)))
 
 -- In a valid history a loss causes nothing.
 
 module _ {L : Type 0} (machine : Machine L) (history : List Event) (valid : IsValid machine history) (few : length machine.firsts ≤ 9) where
-  process_of_cause : (i j : ℕ) (l : IsLink depends history i j) (event : Event) → l.cause ≡ event → (p : ℕ) × IsIn p all_processes × (is_step_of p event ≡ true)
-  process_of_cause i j l (Step p k kind) is =
-      let range = of_processes machine history valid p k kind (in_position history i (Step p k kind) (l.at_cause ∙ ap Some is)) in
-      (p, is_process p range.0 (let last = range.1 in omega (arith, last, few)), itself p)
-    where
-      itself : (p : ℕ) → (p == p) ≡ true
-      itself p = grind (arith, nat_tests)
-  process_of_cause i j l (Lost copy) is =
-      absurd (loss_free machine history valid i copy (l.at_cause ∙ ap Some is) j l)
+  process_of_cause : (i j : ℕ) → IsLink depends history i j → (event : Event) → nth history i ≡ Some event
+      → (p : ℕ) × IsIn p all_processes × (is_step_of p event ≡ true)
+  process_of_cause i j l (Step p k kind) at =
+      let range = of_processes machine history valid p k kind (in_position history i (Step p k kind) at) in
+      (p, is_process p range.0 (let last = range.1 in omega (arith, last, few)), eq-eqb p p refl)
+  process_of_cause i j l (Lost copy) at = absurd (loss_free machine history valid i copy at j l)
 
   module _ (j : ℕ) (event : Event) (at : nth history (suc j) ≡ Some event) where
     abbrev earlier : List Event
     earlier = take j history
 
-    abbrev longer : List Event
-    longer = earlier ++ event ∷ []
-
     abbrev causes : List Event
     causes = direct_among earlier event
-
-    in_earlier : (k : ℕ) → k ≤ j → nth earlier k ≡ nth history k
-    in_earlier k low = grind (arith, common_steps, gets)
-
-    up_to : (k : ℕ) → k ≤ suc j → nth longer k ≡ nth history k
-    up_to k low = grind (arith, common_steps, gets)
 
     number : length earlier ≡ j
     number = length_up_to history j event at
 
-    last_is : length earlier + 1 ≡ suc j
-    last_is = omega (arith, number)
+    in_earlier : (i : ℕ) → i ≤ j → nth earlier i ≡ nth history i
+    in_earlier i low = grind (arith, common_steps, gets)
+
+    -- a direct cause is one by what stands before the event
+    direct_here : (i : ℕ) (cause : Event) → nth earlier i ≡ Some cause
+        → IsDirectCause depends history i (suc j) ↔ (is_direct depends cause (drop i earlier) event ≡ true)
+    direct_here i cause stands =
+        let longer = length_push earlier event in
+        let whole : (earlier ++ event ∷ []) ++ drop (suc j) history ≡ history =
+        append_assoc earlier (event ∷ []) (drop (suc j) history)
+        ∙ ap (λ l. earlier ++ l) (sym (drop_from history j event at)) ∙ take-append-drop j history in
+        let front =
+        rw whole at (prefix_causes (drop (suc j) history) (earlier ++ event ∷ []) i (suc j) (omega (arith, number, longer))) in
+        let last : suc j ≡ length earlier + 1 = omega (arith, number) in
+        let direct = direct_by_list depends earlier i cause stands event in (
+          (λ d. direct.0 (subst (IsDirectCause depends (earlier ++ event ∷ []) i) last (front.0 d))),
+          (λ is. front.1 (subst (IsDirectCause depends (earlier ++ event ∷ []) i) (sym last) (direct.1 is))),
+        )
 
     cause_in : (name : StepId) → NamesDirectCause history (suc j) name → IsIn name (row causes all_processes)
-    cause_in name n =
-        let link = n.1.link in
-        let later = link.later in
-        let cause = link.cause in
-        let at_cause : nth earlier n.0 ≡ Some cause = in_earlier n.0 (omega (arith, later)) ∙ link.at_cause in
-        let last = direct_along history longer (suc j) (λ k low. sym (up_to k low)) n.0 n.1 in
-        let direct = (direct_by_list depends earlier n.0 cause at_cause event).0 (subst (IsDirectCause depends longer n.0) (sym last_is) last) in
-        let process = process_of_cause n.0 (suc j) link cause refl in
-        let is_named = ap event_name (same_Some cause n.2.0 (sym link.at_cause ∙ n.2.1)) ∙ n.2.2 in
-        subst (λ z. IsIn z (row causes all_processes)) is_named
-        (row_in causes all_processes process.0 cause process.1 (direct_in event earlier n.0 cause at_cause direct) process.2)
+    cause_in name (i, direct, (cause, stands, is)) =
+        let later = direct.link.later in
+        let before = in_earlier i (omega (arith, later)) ∙ stands in
+        let process = process_of_cause i (suc j) direct.link cause stands in
+        rw (← is)
+        (row_in causes all_processes process.0 cause process.1
+        (direct_in event earlier i cause before ((direct_here i cause before).0 direct)) process.2)
 
     in_cause : (name : StepId) → IsIn name (row causes all_processes) → NamesDirectCause history (suc j) name
     in_cause name i =
         let r = in_row causes all_processes name i in
         let d = in_direct event earlier r.1 r.3 in
-        let last = (direct_by_list depends earlier (suc d.0) r.1 d.1 event).1 d.2 in
-        let below : suc d.0 ≤ j = (let within = nth_within earlier (suc d.0) r.1 d.1 in omega (arith, within, number)) in
-        let direct = direct_along longer history (suc j) up_to (suc d.0) (subst (IsDirectCause depends longer (suc d.0)) last_is last) in
-        (suc d.0, direct, (r.1, sym (in_earlier (suc d.0) below) ∙ d.1, r.5))
+        let within = nth_within earlier (suc d.0) r.1 d.1 in
+        let stands = sym (in_earlier (suc d.0) (omega (arith, within, number))) ∙ d.1 in
+        (suc d.0, (direct_here (suc d.0) r.1 d.1).1 d.2, (r.1, stands, r.5))
 
     causes_are : (names : List StepId) → AreDirectCauses history (suc j) names → names ≡ row causes all_processes
     causes_are names are =

@@ -23,10 +23,8 @@ use Rattle.cdb_rules.specs.Refusals.{IsOfRun}
 use Rattle.cdb_rules.proofs.OfRun.{next_of_run}
 use Rattle.cdb_rules.specs.State.{Machine}
 use Rattle.cdb_rules.specs.Undo.{IsEventNamed, for_standing, number_removed, with_removed, direct_among}
-use Rattle.cdb_rules.proofs.NamesFound.{stands_named}
-use Rattle.cdb_rules.proofs.Results.{found_is}
-use Rattle.cdb_rules.proofs.AllStanding.{valid_named, free_undone, needed_refused, standing_rolled_back}
-use Rattle.cdb_rules.proofs.TakenBack.{exact_rollback, rollback_leads_back, undo_ok_free, undo_leads_back}
+use Rattle.cdb_rules.proofs.Undo.{stands_named, found_is, valid_named, free_undone, needed_refused, standing_rolled_back, exact_rollback, rollback_leads_back}
+use Rattle.cdb_rules.proofs.Undo.{undo_ok_free, undo_leads_back}
 use Rattle.cdb_run.proofs.Causes.{causes_at}
 use Rattle.cdb_run.proofs.Held.{machine_each, at_most_nine}
 use Rattle.cdb_run.specs.Proper.{IsProper}

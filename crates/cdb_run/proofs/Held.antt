@@ -15,8 +15,8 @@ use Rattle.cdb_rules.specs.Machines.{machine_of}
 use Rattle.cdb_rules.specs.RunView.{RunView}
 use Rattle.cdb_rules.specs.State.{Machine, ProcessState, RunState, start, fresh_process, fresh_progress}
 use Rattle.cdb_rules.specs.Step.{after, fold, state_of}
-use Rattle.cdb_rules.proofs.Bounds.{IsSound, event_sound, start_sound}
-use Rattle.cdb_rules.proofs.FirstStates.{length-first_states}
+use Rattle.cdb_rules.proofs.ValidHistories.{IsSound, event_sound, start_sound}
+use Rattle.cdb_rules.proofs.OfRun.{length-first_states}
 use Rattle.cdb_rules.proofs.FoldKeeps.{reached_keeps}
 use Rattle.cdb_rules.proofs.Taken.{some_of}
 use Rattle.cdb_run.specs.Current.{Held, held_of, IsCurrent}

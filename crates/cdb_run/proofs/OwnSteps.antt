@@ -17,7 +17,7 @@ use Rattle.cdb_causal.specs.Names.{IsNewName}
 use Rattle.cdb_rules.specs.OwnSteps.{no_writes, writes_with, writes_met, as_own_events, own_steps}
 use Rattle.cdb_rules.specs.Runs.{step_name}
 use Rattle.cdb_rules.proofs.ListMembers.{from_filter, in_filter, position_in}
-use Rattle.cdb_rules.proofs.NamedEvents.{in_position}
+use Rattle.cdb_rules.proofs.ValidHistories.{in_position}
 use Rattle.cdb_rules.specs.declared.own_event.OwnEvent.{OwnEvent}
 use Rattle.cdb_standing.specs.Comparisons.{steps_by, AreNumbered, is_write_of, writes_before}
 

@@ -26,9 +26,7 @@ use Rattle.cdb_run.specs.Back.{overwritten_cell}
 use Rattle.cdb_run.specs.Recorded.{IsRecorded, PutsBack, overwritten_by}
 use Rattle.cdb_rules.specs.State.{Machine, ProcessState, RunState}
 use Rattle.cdb_rules.specs.Step.{after}
-use Rattle.cdb_rules.proofs.Commutes.{after_commutes, lost_from}
-use Rattle.cdb_rules.proofs.Kept.{nat_eq-ne, affects_read, process_kept, register_kept}
-use Rattle.cdb_rules.proofs.Taken.{IsTaken, taken_from}
+use Rattle.cdb_rules.proofs.Taken.{after_commutes, lost_from, nat_eq-ne, affects_read, process_kept, register_kept, IsTaken, taken_from}
 
 -- the events of a list of records, and of one without a record
 module _ {B : Type 0} (entries : List (Recorded B)) where

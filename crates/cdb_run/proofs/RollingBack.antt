@@ -6,8 +6,8 @@ use Rattle.cdb_base.specs.declared.event.Event.{Event}
 use Rattle.cdb_causal.specs.Causality.{IsFree}
 use Rattle.cdb_causal.specs.Dependence.{depends}
 use Rattle.cdb_causal.specs.Rollback.{without, rolled_back, remaining}
-use Rattle.cdb_causal.proofs.Undone.{rolled_back_alone, rolled_back_last}
-use Rattle.cdb_rules.proofs.NamesFound.{stands_from_one}
+use Rattle.cdb_causal.proofs.Chains.{rolled_back_alone, rolled_back_last}
+use Rattle.cdb_rules.proofs.Undo.{stands_from_one}
 
 -- the events are the one at the position and its consequences, without which the same remains as before; where there are none, that
 -- is the history

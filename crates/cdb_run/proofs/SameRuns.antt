@@ -22,9 +22,8 @@ use Rattle.cdb_standing.specs.Moves.{StandsIn}
 use Rattle.cdb_rules.specs.State.{Machine, RunState}
 use Rattle.cdb_rules.specs.Step.{fold, IsValid}
 use Rattle.cdb_rules.proofs.Histories.{fold_exchanged}
-use Rattle.cdb_rules.proofs.Numbers.{own_at}
-use Rattle.cdb_rules.proofs.OwnOfState.{own_of_history}
-use Rattle.cdb_rules.proofs.SameState.{ShowTheSame, shown_exchanged}
+use Rattle.cdb_rules.proofs.Members.{own_at}
+use Rattle.cdb_rules.proofs.ValidHistories.{own_of_history, ShowTheSame, shown_exchanged}
 use Rattle.cdb_rules.proofs.Taken.{some_of}
 
 same_bool : (a b : Bool) → (a ≡ true → b ≡ true) → (b ≡ true → a ≡ true) → a ≡ b

@@ -1,29 +1,24 @@
 -- A step and a loss, by what a run holds: that they may be taken, what is held after them, and what taking them back restores.
-use Rattle.std.proofs.lemmas.Grind.{common_steps}
-use Rattle.std.proofs.lemmas.Option.{gets, same_Some}
-use Rattle.std.proofs.Common.{◌≡◌, ℕ, zero, suc, ◌≤◌, true, false, List, [], ◌∷◌, ◌++◌, length, map, Option, Some, IsSome}
-use Rattle.std.proofs.Common.{option_map, unwrap_or, refl, sym, ap, ap₂, ◌∙◌, subst, arith}
+use Rattle.std.proofs.lemmas.Option.{same_Some}
+use Rattle.std.proofs.Common.{◌≡◌, ℕ, ◌≤◌, true, false, List, [], ◌∷◌, ◌++◌, length, Option, Some, IsSome}
+use Rattle.std.proofs.Common.{option_map, refl, sym, ap, ap₂, ◌∙◌, subst, arith}
 use Rattle.std.proofs.lemmas.Bool.Decides.{nat_tests}
-use Rattle.std.proofs.lemmas.List.{length_push, length-map}
-use Rattle.cdb_base.specs.Positions.{nth, set_nth}
+use Rattle.std.proofs.lemmas.List.{length-map}
+use Rattle.cdb_base.specs.Positions.{nth}
 use Rattle.cdb_base.specs.declared.event.Event.{Event}
 use Rattle.cdb_base.specs.declared.event.Event.TheVariants.{Step, Lost}
 use Rattle.cdb_base.specs.declared.event.Kind.{Kind}
-use Rattle.cdb_base.specs.declared.event.Kind.TheVariants.{Send, Recv, Write}
+use Rattle.cdb_base.specs.declared.event.Kind.TheVariants.{Send, Write}
 use Rattle.cdb_base.specs.declared.name.CopyName.{CopyName}
 use Rattle.cdb_base.specs.declared.name.StepId.{StepId}
-use Rattle.cdb_base.specs.declared.payload.Payload.{Payload}
 use Rattle.cdb_causal.specs.Paths.{IsPath}
-use Rattle.cdb_message.specs.Mail.{MailState, message_name, sent_by, is_sent, is_received, add_send, is_lost, add_loss, remove_loss}
-use Rattle.cdb_message.proofs.Sent.{sent_where}
-use Rattle.cdb_message.proofs.TakenBack.{remove_send-add_send, remove_receive-add_receive, remove_loss-add_loss}
+use Rattle.cdb_message.specs.Mail.{MailState, is_sent, is_received, is_lost, add_loss, remove_loss}
+use Rattle.cdb_message.proofs.TakenBack.{remove_loss-add_loss}
 use Rattle.cdb_process.specs.Table.{Table}
-use Rattle.cdb_process.specs.Wishes.{wished_payload, wished_cell}
+use Rattle.cdb_process.specs.Wishes.{wished_cell}
 use Rattle.cdb_process.specs.declared.Wish.{Wish}
-use Rattle.cdb_register.proofs.Changes.{with_register-back}
-use Rattle.cdb_register.specs.Registers.{RegisterStates}
-use Rattle.cdb_register.specs.declared.RegisterState.{RegisterState}
-use Rattle.cdb_rules.specs.InputsTaken.{IsPostable, mail_after, progress_after, registers_after}
+use Rattle.cdb_causal.proofs.Lists.{nth_within}
+use Rattle.cdb_rules.specs.InputsTaken.{IsPostable, registers_after}
 use Rattle.cdb_rules.specs.Machines.{machine_of}
 use Rattle.cdb_rules.specs.Mail.{mail_of}
 use Rattle.cdb_rules.specs.RunView.{RunView}
@@ -31,59 +26,22 @@ use Rattle.cdb_rules.specs.Runs.{IsNext, CanUndo}
 use Rattle.cdb_rules.specs.State.{Machine, ProcessState, RunState, start}
 use Rattle.cdb_rules.specs.Step.{after, is_among, fold}
 use Rattle.cdb_rules.specs.declared.progress.Progress.{Progress}
-use Rattle.cdb_rules.proofs.Bounds.{IsSound, writes_below}
-use Rattle.cdb_rules.proofs.Commutes.{lost_from}
-use Rattle.cdb_rules.proofs.Kept.{is_false, left, at_left}
-use Rattle.cdb_rules.proofs.Mails.{mail_left, postable}
+use Rattle.cdb_rules.proofs.ValidHistories.{IsSound, writes_below}
+use Rattle.cdb_rules.proofs.Taken.{lost_from, left, at_left, mail_left, postable, IsTaken, IsAccepted, taken_from, parts, both}
 use Rattle.cdb_rules.proofs.Members.{losable, now_lost}
-use Rattle.cdb_rules.proofs.Numbers.{received_first, received_now}
-use Rattle.cdb_rules.proofs.Positions.{nth-map, nth-update_nth_same, map-set_nth, set_nth_same, nth-set_nth_same, nth_within}
-use Rattle.cdb_rules.proofs.Stages.{sight_in, meets, is_due}
-use Rattle.cdb_rules.proofs.Taken.{IsTaken, IsAccepted, taken_from, parts, some_of, both}
-use Rattle.cdb_run.specs.Back.{put_back, overwritten_cell}
+use Rattle.cdb_rules.proofs.Positions.{nth-map, map-set_nth}
+use Rattle.cdb_rules.specs.Step.{sight_in, meets, is_due}
+use Rattle.cdb_run.specs.Back.{put_back}
 use Rattle.cdb_run.specs.Current.{Held, held_of, IsCurrent}
 use Rattle.cdb_run.specs.Recorded.{IsRecorded}
-use Rattle.cdb_run.specs.Restored.{progress_before, mail_before, registers_before, held_before, IsUnpostable, IsRestorable, MayTakeBack}
-use Rattle.cdb_run.specs.Restored.{HasTakenBack}
-use Rattle.cdb_run.specs.Stepped.{IsWritable, local_after, held_after, MayStepFrom, MayStep, HasStepped}
-use Rattle.cdb_run.proofs.Held.{view, at_most_nine, led_reached, sound, reached_sound, leads_on, added}
+use Rattle.cdb_run.specs.Stepped.{IsSentFirst, HasDue, local_after, held_after, MayStepFrom, MayStep, HasStepped}
+use Rattle.cdb_run.proofs.Held.{view, at_most_nine, led_reached, valid, sound, reached_sound, leads_on, added}
 use Rattle.cdb_run.proofs.Records.{free_recorded_last}
-use Rattle.cdb_run.proofs.Told.{IsSentFirst, sent_first}
+use Rattle.cdb_run.proofs.Told.{sent_first}
 use Rattle.cdb_setup.specs.Parts.{Parts, AreInRange}
 use Rattle.cdb_standing.specs.Recorded.{recorded_of, events_of, nothing, IsRecordTakenOut}
 use Rattle.cdb_standing.specs.declared.recorded.Recorded.{Recorded}
 use Rattle.cdb_standing.specs.declared.recorded.UndoData.{UndoData}
-
-set_nth-set_nth_same : {A : Type 0} (xs : List A) (p : ℕ) (x y : A) → set_nth (set_nth xs p x) p y ≡ set_nth xs p y
-set_nth-set_nth_same xs zero x y = refl
-set_nth-set_nth_same [] (suc i) x y = refl
-set_nth-set_nth_same (z ∷ zs) (suc zero) x y = refl
-set_nth-set_nth_same (z ∷ zs) (suc (suc i)) x y = ap (λ l. z ∷ l) (set_nth-set_nth_same zs (suc i) x y)
-
--- the mail
-
-send_unpostable : (mail : MailState) (p m : ℕ) (payload : Payload) (sent : List Payload) → nth mail.sent p ≡ Some sent → IsSentFirst mail
-    → IsUnpostable (add_send mail p payload) p (Send m)
-send_unpostable mail p m payload sent at first =
-    let now = nth-set_nth_same mail.sent p (sent_by mail p ++ payload ∷ []) sent at in
-    let count = ap (λ o. length (unwrap_or o [])) now in
-    let more = length_push (sent_by mail p) payload in
-    let last = message_name p (length (sent_by (add_send mail p payload) p)) in
-    let unsent : is_sent mail last ≡ true → ⊥ = λ is. absurd (omega (arith, count, more, sent_where mail last is)) in (
-      nth_within (set_nth mail.sent p (sent_by mail p ++ payload ∷ [])) p (sent_by mail p ++ payload ∷ []) now,
-      omega (arith, count, more),
-      λ q. is_false _ (λ is. unsent (first.received q last is)),
-      λ q. is_false _ (λ is. unsent (first.lost (record { msg = last; to = q }) is)),
-    )
-
--- the registers after a write, which can be taken back, and as they were once it is
-
-module _ (registers : RegisterStates) (kind : Kind) (wish : Option Wish) (may : IsWritable registers kind wish) where
-  restorable : IsRestorable (registers_after registers kind (wished_cell wish)) kind (overwritten_cell registers kind)
-  restorable = grind (arith, common_steps, gets, nth-update_nth_same {A = RegisterState})
-
-  registers_again : registers_before (registers_after registers kind (wished_cell wish)) kind (overwritten_cell registers kind) ≡ registers
-  registers_again = grind (arith, common_steps, gets, with_register-back)
 
 is_at_most : (n p : ℕ) → is_among n p ≡ true → p ≤ n
 is_at_most n p among = grind (arith, nat_tests)
@@ -102,10 +60,6 @@ module _ {L : Type 0} (table : Table L) (setup : Parts) (few : length (machine_o
     abbrev wish : Option Wish
     wish = machine.wish process.progress.local
 
-    -- how far the process has come after it
-    abbrev came : Progress L
-    came = progress_after process.progress kind taken.next
-
     accepts : IsAccepted machine process k kind (sight_in state p kind) taken.next
     accepts = parts machine state to p k kind taken
 
@@ -123,9 +77,6 @@ module _ {L : Type 0} (table : Table L) (setup : Parts) (few : length (machine_o
           registers = registers_after state.registers kind (wished_cell wish);
         })
 
-    at_left_held : nth (held_of to).processes p ≡ Some came
-    at_left_held = ap (λ (held : Held L). nth held.processes p) held_is ∙ nth-set_nth_same _ p _ process.progress at_held
-
     may_post : IsPostable (mail_of state) p kind
     may_post =
         let number = accepts.number in
@@ -133,32 +84,31 @@ module _ {L : Type 0} (table : Table L) (setup : Parts) (few : length (machine_o
         let sends = (sound.bounded p process taken.at_process).sends in
         postable machine state p process kind taken.at_process (omega (arith, number, limit, sends)) accepts.due accepts.met
 
-    may_write : (x : Kind) → kind ≡ x → IsWritable state.registers x wish
-    may_write (Write register) is = (
+    has_due : (x : Kind) → kind ≡ x → HasDue state.registers x wish
+    has_due (Send m) is = (both _ _ (subst (λ x. is_due machine process x ≡ true) is accepts.due)).1
+    has_due (Write register) is = (
       subst (λ x. meets x (sight_in state p x) ≡ true) is accepts.met,
       writes_below machine state sound few register,
       subst (λ x. is_due machine process x ≡ true) is accepts.due,
     )
-    may_write _ is = tt
+    has_due _ is = tt
 
-    -- what it sends
-    sends : (m : ℕ) → kind ≡ Send m → (payload : Payload) × (wished_payload wish ≡ Some payload)
-    sends m is = some_of (wished_payload wish) (both _ _ (subst (λ x. is_due machine process x ≡ true) is accepts.due)).1
-
-    pub may_step : MayStep table (held_of state) p kind
-    may_step =
+    pub may_step : IsSentFirst (mail_of state) → MayStep table (held_of state) p kind
+    may_step first =
         let number = accepts.number in
         let limit = accepts.limit in
         record {
           within = nth_within (held_of state).processes p process.progress at_held;
+          sent_first = first;
           from = λ held_progress at.
               subst (MayStepFrom table (held_of state) p kind) (same_Some process.progress held_progress (sym at_held ∙ at))
               (record {
+                alive = accepts.alive;
                 steps = omega (arith, number, limit);
                 queries = (sound.bounded p process taken.at_process).queries;
                 accepted = subst IsSome (sym accepts.takes) refl;
                 postable = may_post;
-                writable = may_write kind refl;
+                due = has_due kind refl;
               });
         }
 
@@ -185,60 +135,20 @@ module _ {L : Type 0} (table : Table L) (setup : Parts) (few : length (machine_o
               cell = stepped.overwritten;
             }
 
-      -- its record takes it back
-      module _ (recorded : IsRecorded machine before state (recorded_of (Step p k kind) undo) to) where
-        may_unpost : (x : Kind) → kind ≡ x → IsSentFirst (mail_of state) → IsUnpostable (mail_of to) p x
-        may_unpost (Send m) is first =
-            let payload = sends m is in
-            subst (λ mail. IsUnpostable mail p (Send m))
-            (sym (ap (λ (held : Held L). held.mail) held_is ∙ ap₂ (mail_after (mail_of state) p) is payload.1))
-            (send_unpostable (mail_of state) p m payload.0 process.sent
-            (nth-map (λ (x : ProcessState L). x.sent) state.processes p ∙ ap (option_map (λ (x : ProcessState L). x.sent)) taken.at_process) first)
-        may_unpost (Recv s m) is first = (
-          nth_within (map (λ (x : ProcessState L). x.received) to.processes) p _
-              (nth-map (λ (x : ProcessState L). x.received) to.processes p
-              ∙ ap (option_map (λ (x : ProcessState L). x.received)) (at_left machine state to p k kind taken)),
-          received_now machine state to p k kind taken s m is,
-        )
-        may_unpost _ is first = tt
-
-        pub may_take_back : IsSentFirst (mail_of state) → MayTakeBack (held_of to) p kind undo.overwritten
-        may_take_back first =
-            record {
-              within = nth_within (held_of to).processes p _ at_left_held;
-              countable = λ held_progress at. rw (same_Some held_progress came (sym at ∙ at_left_held)) (grind (arith, common_steps));
-              unpostable = may_unpost kind refl first;
-              restorable = rw (recorded.cell, ap (λ (held : Held L). held.registers) held_is) (restorable state.registers kind wish (may_write kind refl));
-            }
-
-        mail_again : (x : Kind) → kind ≡ x → mail_before (mail_after (mail_of state) p x (wished_payload wish)) p x ≡ mail_of state
-        mail_again (Send m) is =
-            let payload = sends m is in
-            ap (λ o. mail_before (mail_after (mail_of state) p (Send m) o) p (Send m)) payload.1 ∙ remove_send-add_send (mail_of state) p payload.0
-        mail_again (Recv s m) is =
-            remove_receive-add_receive (mail_of state) p (message_name s m) (received_first machine state to p k kind taken s m is)
-        mail_again _ is = refl
-
-        progress_again : progress_before before came kind undo.back ≡ process.progress
-        progress_again =
-            let alive = accepts.alive in
-            let back = recorded.back process _ taken.at_process (at_left machine state to p k kind taken) in
-            grind (arith, common_steps, gets)
-
-        pub restored : {new : Held L} → HasTakenBack before (held_of to) p kind undo new → new ≡ held_of state
-        restored took =
-            took.after
-            ∙ ap₂ (λ (held : Held L) x. held_before before held p kind x undo) held_is (same_Some took.progress came (sym took.stood ∙ at_left_held))
-            ∙ (λ i. record {
-              processes =
-                  (ap (set_nth (set_nth (held_of state).processes p came) p) progress_again
-                  ∙ set_nth-set_nth_same (held_of state).processes p came process.progress
-                  ∙ set_nth_same (held_of state).processes p process.progress at_held) i;
-              mail = mail_again kind refl i;
-              registers =
-                  (ap (registers_before (registers_after state.registers kind (wished_cell wish)) kind) recorded.cell
-                  ∙ registers_again state.registers kind wish (may_write kind refl)) i;
-            })
+      -- by its record it was taken
+      pub was_stepped : IsRecorded machine before state (recorded_of (Step p k kind) undo) to → IsSentFirst (mail_of state)
+          → HasStepped table before (held_of state) p kind undo (held_of to)
+      was_stepped recorded first =
+          record {
+            may = may_step first;
+            progress = process.progress;
+            stood = at_held;
+            next = taken.next;
+            accepted = accepts.takes;
+            after = held_is;
+            back = recorded.back process _ taken.at_process (at_left machine state to p k kind taken);
+            overwritten = recorded.cell;
+          }
 
 -- The same by what is held of a run: an event that is added, and one that is taken out, whatever came later.
 module _ {L B : Type 0} (table : Table L) {before : L → B → L} {setup : Parts} {held : Held L} {entries : List (Recorded B)} (ranges : AreInRange setup)
@@ -248,6 +158,9 @@ module _ {L B : Type 0} (table : Table L) {before : L → B → L} {setup : Part
 
   few : length its_machine.firsts ≤ 9
   few = at_most_nine table setup ranges
+
+  sent_before : IsSentFirst (mail_of current.state)
+  sent_before = sent_first its_machine (events_of entries) current.state (valid current)
 
   -- an enabled event leads on
   onward : (event : Event) → IsNext table run event → (to : RunState L) × (after its_machine current.state event ≡ Some to)
@@ -259,7 +172,7 @@ module _ {L B : Type 0} (table : Table L) {before : L → B → L} {setup : Part
     step = onward (Step p k kind) enabled
 
     pub step_may : MayStep table held p kind
-    step_may = rw current.holds (may_step table setup few current.state step.0 (sound current) p k kind step.1)
+    step_may = rw current.holds (may_step table setup few current.state step.0 (sound current) p k kind step.1 sent_before)
 
     pub step_added : {undo : UndoData B} {new : Held L} → HasStepped table before held p kind undo new → {longer : List (Recorded B)}
         → longer ≡ entries ++ recorded_of (Step p k kind) undo ∷ [] → IsCurrent its_machine before new longer
@@ -325,20 +238,18 @@ module _ {L B : Type 0} (table : Table L) {before : L → B → L} {setup : Part
     abbrev before_step : RunState L
     before_step = last free (Step p k kind) undo out
 
-    recorded : IsRecorded its_machine before before_step (recorded_of (Step p k kind) undo) current.state
-    recorded = (earlier free (Step p k kind) undo out).2
+    pub was_held : (was : Held L) × HasStepped table before was p kind undo held
+    was_held =
+        let recorded = (earlier free (Step p k kind) undo out).2 in (
+          held_of before_step,
+          subst (λ (h : Held L). HasStepped table before (held_of before_step) p kind undo h) (sym current.holds)
+              (was_stepped table setup few before_step current.state (last_sound free (Step p k kind) undo out) p k kind recorded.leads before undo recorded
+              (sent_first its_machine (events_of rest) before_step (reaches_last free (Step p k kind) undo out))),
+        )
 
-    pub undo_may : MayTakeBack held p kind undo.overwritten
-    undo_may =
-        rw current.holds
-        (may_take_back table setup few before_step current.state (last_sound free (Step p k kind) undo out) p k kind recorded.leads before undo recorded
-        (sent_first its_machine (events_of rest) before_step (reaches_last free (Step p k kind) undo out)))
-
-    pub step_undone : {new : Held L} → HasTakenBack before held p kind undo new → IsCurrent its_machine before new rest
-    step_undone took =
-        left_held free (Step p k kind) undo out
-        (restored table setup few before_step current.state (last_sound free (Step p k kind) undo out) p k kind recorded.leads before undo recorded
-        (rw current.holds at took))
+    pub step_undone : {new : Held L} → new ≡ was_held.0 → IsCurrent its_machine before new rest
+    unfolding was_held
+    step_undone new_is = left_held free (Step p k kind) undo out new_is
 
   module _ {name : StepId} (free : CanUndo run name) (copy : CopyName) {rest : List (Recorded B)}
       (out : IsRecordTakenOut entries name (recorded_of (Lost copy) nothing) rest) where

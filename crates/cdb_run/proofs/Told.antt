@@ -22,29 +22,20 @@ use Rattle.cdb_rules.specs.RunView.{RunView}
 use Rattle.cdb_rules.specs.Runs.{IsNext}
 use Rattle.cdb_rules.specs.State.{Machine, ProcessState, RunState, start}
 use Rattle.cdb_rules.specs.Step.{after, fold}
-use Rattle.cdb_rules.proofs.Commutes.{lost_from}
+use Rattle.cdb_rules.proofs.Taken.{lost_from, nat_eq-is, nat_eq-ne, at_left, process_kept, received_kept, sent_is, IsTaken, taken_from, parts}
 use Rattle.cdb_rules.proofs.FoldKeeps.{comes, reached_keeps, turn}
-use Rattle.cdb_rules.proofs.Kept.{nat_eq-is, nat_eq-ne, at_left, process_kept, received_kept}
 use Rattle.cdb_rules.proofs.ListMembers.{position_in}
-use Rattle.cdb_rules.proofs.Mails.{sent_is}
-use Rattle.cdb_rules.proofs.Members.{losable, now_lost, nth-fresh, start_unlost}
-use Rattle.cdb_rules.proofs.NamedEvents.{in_position, sent_by_step, start_unsent}
-use Rattle.cdb_rules.proofs.Numbers.{of_process, steps_of, number_is, number_after, send_number, arrived, received_now, steps_grow, sends_grow}
-use Rattle.cdb_rules.proofs.Numbers.{received_first, received_stays, lost_stays, lost_cases}
+use Rattle.cdb_rules.proofs.Members.{losable, now_lost, nth-fresh, start_unlost, of_process, steps_of, number_is, number_after, send_number, arrived}
+use Rattle.cdb_rules.proofs.Members.{received_now, event_grown, received_first, lost_cases}
+use Rattle.cdb_rules.proofs.ValidHistories.{in_position, sent_by_step, start_unsent, receives_it}
 use Rattle.cdb_rules.proofs.Positions.{nth-map}
-use Rattle.cdb_rules.proofs.SameState.{receives_it}
-use Rattle.cdb_rules.proofs.Taken.{IsTaken, taken_from, parts}
 use Rattle.cdb_run.specs.Current.{Held, IsCurrent}
+use Rattle.cdb_run.specs.Stepped.{IsSentFirst}
 use Rattle.cdb_run.proofs.Held.{view, valid, leads_on}
 use Rattle.cdb_setup.specs.Parts.{Parts}
 use Rattle.cdb_standing.specs.Moves.{StandsIn, IsNextOf, IsPending, MayDo, MayCome}
 use Rattle.cdb_standing.specs.Recorded.{events_of}
 use Rattle.cdb_standing.specs.declared.recorded.Recorded.{Recorded}
-
--- what was received or lost was sent
-pub record IsSentFirst (mail : MailState) : Type 0 where
-  pub received : (q : ℕ) (name : MsgName) → is_received mail q name ≡ true → is_sent mail name ≡ true
-  pub lost : (copy : CopyName) → is_lost mail copy ≡ true → is_sent mail copy.msg ≡ true
 
 -- the number behind those that are counted is the next
 next_of : {Has : ℕ → Type 0} {count k : ℕ} → k ≡ count + 1 → ((n : ℕ) → Has n → n ≤ count) → ((n : ℕ) → 1 ≤ n → n ≤ count → Has n) → IsNextOf Has k
@@ -95,7 +86,7 @@ module _ {L : Type 0} (machine : Machine L) where
   steps_brought p k =
       record {
         not_first = λ counted. grind (arith, common_steps, gets, nth-fresh machine p);
-        stays = λ state event next counted one. (counted.0, le_trans counted.1 (steps_grow machine state next event one p));
+        stays = λ state event next counted one. (counted.0, le_trans counted.1 ((event_grown machine state next event one).steps p));
         comes = λ state next kind one.
             let t = taken_from machine state next p k kind one in
             (omega (arith, number_is machine state next p k kind t), omega (arith, number_after machine state next p k kind t));
@@ -127,7 +118,7 @@ module _ {L : Type 0} (machine : Machine L) where
   sends_brought name =
       record {
         not_first = start_unsent machine name;
-        stays = λ state event next sent one. let grows = sends_grow machine state next event one name.s in grind (arith, common_steps, gets);
+        stays = λ state event next sent one. let grows = (event_grown machine state next event one).sends name.s in grind (arith, common_steps, gets);
         comes = λ state next k one.
             let t = taken_from machine state next name.s k (Send name.m) one in
             let number = send_number machine state next name.s k (Send name.m) t name.m refl in
@@ -152,7 +143,7 @@ module _ {L : Type 0} (machine : Machine L) where
   receives_brought copy =
       record {
         not_first = unreceived_first copy.to copy.msg;
-        stays = λ state event next was one. received_stays machine state next event one copy.to copy.msg was;
+        stays = λ state event next was one. (event_grown machine state next event one).received copy.to copy.msg was;
         comes = λ state next k one.
             let kind : Kind = Recv copy.msg.s copy.msg.m in
             received_now machine state next copy.to k kind (taken_from machine state next copy.to k kind one) copy.msg.s copy.msg.m refl;
@@ -172,7 +163,7 @@ module _ {L : Type 0} (machine : Machine L) where
   losses_brought copy =
       record {
         not_first = start_unlost machine copy;
-        stays = λ state event next was one. lost_stays machine state next event one copy was;
+        stays = λ state event next was one. (event_grown machine state next event one).lost copy was;
         comes = λ state next _. now_lost machine state next copy;
         only = λ state event next one is. ⊎_elim inl (λ e. inr (tt, e)) (lost_cases machine state next event one copy is);
       }

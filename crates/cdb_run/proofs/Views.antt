@@ -2,11 +2,10 @@
 use Rattle.std.proofs.lemmas.Grind.{common_steps}
 use Rattle.std.proofs.lemmas.Option.{gets}
 use Rattle.std.proofs.lemmas.Simd.{map-map}
-use Rattle.std.proofs.Common.{◌≡◌, ◌↔◌, ℕ, ◌+◌, ◌≤◌, true, false, List, length, map, Option, Some, None}
+use Rattle.std.proofs.Common.{◌≡◌, ◌↔◌, ℕ, ◌+◌, ◌≤◌, false, List, length, map, Option, Some, None, is_ok}
 use Rattle.std.proofs.Common.{Result, Ok, Err, IsOk, IfOk, option_map, get_or, refl, sym, ap, ◌∙◌, subst, arith}
 use Rattle.std.proofs.lemmas.List.{length-map}
 use Rattle.std.specs.Option.{option_map_or}
-use Rattle.std.specs.Prelude.{IfSome}
 use Rattle.cdb_base.specs.Positions.{nth}
 use Rattle.cdb_base.specs.declared.act.Act.{Act}
 use Rattle.cdb_base.specs.declared.event.Event.{Event}
@@ -18,7 +17,6 @@ use Rattle.cdb_message.specs.Mail.{message_name}
 use Rattle.cdb_process.specs.Table.{Table}
 use Rattle.cdb_rules.specs.Decisions.{decided_from}
 use Rattle.cdb_rules.specs.Machines.{machine_of}
-use Rattle.cdb_rules.specs.Mail.{mail_of}
 use Rattle.cdb_rules.specs.Refusals.{planned, planned_again, IsOfRun}
 use Rattle.cdb_rules.specs.RunView.{RunView}
 use Rattle.cdb_rules.specs.Runs.{machine_in, state_in, process_in, progress_in, mail_in, registers_in, decisions_in, result_of_step, result_of_again}
@@ -26,18 +24,16 @@ use Rattle.cdb_rules.specs.Runs.{result_of_loss, with_event, IsNext, IsInOrder, 
 use Rattle.cdb_rules.specs.State.{Machine, ProcessState, RunState}
 use Rattle.cdb_rules.specs.Step.{is_among}
 use Rattle.cdb_rules.specs.declared.progress.Progress.{Progress}
-use Rattle.cdb_rules.proofs.Again.{again_exact, again_same, lose_enabled}
-use Rattle.cdb_rules.proofs.Bounds.{IsSound}
+use Rattle.cdb_rules.proofs.Granted.{step_enabled, lose_enabled, again_enabled, enabled_again, again_same, ok_of}
+use Rattle.cdb_rules.proofs.ValidHistories.{IsSound}
 use Rattle.cdb_rules.proofs.Histories.{reached_state}
-use Rattle.cdb_rules.proofs.Planned.{planned_enabled}
 use Rattle.cdb_rules.proofs.Positions.{nth-map}
 use Rattle.cdb_rules.proofs.Taken.{mapped}
-use Rattle.cdb_rules.proofs.TakenBack.{just_taken}
+use Rattle.cdb_rules.proofs.Undo.{just_taken}
 use Rattle.cdb_run.specs.Current.{Held, held_of, IsCurrent}
 use Rattle.cdb_run.specs.Proper.{IsProper}
 use Rattle.cdb_run.proofs.Held.{view, machine_each, valid, state_is, sound, reached_sound}
-use Rattle.cdb_setup.proofs.InRange.{answer_in_range}
-use Rattle.cdb_setup.specs.Parts.{Parts, AreInRange, IsWithin, answer_of}
+use Rattle.cdb_setup.specs.Parts.{Parts, AreInRange}
 use Rattle.cdb_standing.specs.declared.recorded.Recorded.{Recorded}
 
 -- By what is held.
@@ -72,19 +68,16 @@ found_there xs i p x position within read = grind (arith, common_steps, gets)
 absent : {A : Type 0} (xs : List A) (p : ℕ) → is_among (length xs) p ≡ false → nth xs p ≡ None
 absent xs p none = grind (arith, common_steps, gets)
 
-within_among : (n : ℕ) (answer : Option ℕ) → IfSome answer (IsWithin 1 n) → (leader : ℕ) → answer ≡ Some leader → is_among n leader ≡ true
-within_among n answer within leader answered = grind (arith, common_steps, gets)
-
 -- what is asked of the progress of a process is asked of the process
 module _ {L A : Type 0} (ask : Progress L → A) (none : A) where
   asked : (process : Option (ProcessState L)) (progress : Progress L) → option_map (λ it. it.progress) process ≡ Some progress
       → ask progress ≡ option_map_or (λ it. ask it.progress) process none
   asked process progress shown = grind (arith, common_steps, gets)
 
--- an answer that is the event, exactly where it can be taken
-ok_is : {E : Type 0} (Holds : Event → Type 0) (event : Event) (answer : Result Event E) → (IsOk answer ↔ Holds event) → IfOk answer (λ it. it ≡ event)
-    → IfOk answer Holds
-ok_is Holds event answer exact same = grind (arith, common_steps, gets)
+-- of an answer that is an event holds what holds of each event that it can be
+if_ok : {P : Event → Type 0} (answer : Result Event Refusal) → ((event : Event) → answer ≡ Ok event → P event) → IfOk answer P
+if_ok (Ok event) holds = holds event refl
+if_ok (Err why) holds = tt
 
 -- By its view.
 module _ {L : Type 0} (table : Table L) (run : RunView) (proper : IsProper table run) where
@@ -127,29 +120,21 @@ module _ {L : Type 0} (table : Table L) (run : RunView) (proper : IsProper table
 
   -- an answer that is an event can be taken
   pub loss_next : (s m p : ℕ) → IfOk (result_of_loss table run s m p) (IsNext table run)
-  loss_next s m p = lose_enabled machine run.setup number refl state (message_name s m) p
+  loss_next s m p = if_ok _ (lose_enabled machine proper.lawful run.setup number state refl (message_name s m) p)
 
   pub just_taken_now : (event : Event) → IsNext table run event → IsJustTaken (with_event run event) event run
   just_taken_now event next = just_taken machine run.setup.processes number run.history proper.in_order event next
 
   pub step_next : (p : ℕ) (act : Act) → IfOk (result_of_step table run p act) (IsNext table run)
-  step_next p act = go (process_in table run p) refl
-    where
-      if_ok : (answer : Result Event Refusal) → ((event : Event) → answer ≡ Ok event → IsNext table run event) → IfOk answer (IsNext table run)
-      if_ok (Ok event) enabled = enabled event refl
-      if_ok (Err why) enabled = tt
-
-      go : (o : Option (ProcessState L)) → process_in table run p ≡ o → IfOk (result_of_step table run p act) (IsNext table run)
-      go None at = rw at tt
-      go (Some process) at =
-          rw at (if_ok (planned machine run.setup (mail_of state) state.registers process.progress p act)
-          (planned_enabled machine run.setup number state p process
-          (within_among run.setup.processes (answer_of run.setup p (process.progress.queries + 1))
-          (answer_in_range run.setup p (process.progress.queries + 1) proper.ranges)) proper.lawful at act))
+  step_next p act = if_ok _ (step_enabled machine proper.lawful run.setup number state proper.ranges p act)
 
   module _ (event : Event) (of_run : IsOfRun run.setup event) where
     pub again_ok : IsOk (result_of_again table run event) ↔ IsNext table run event
-    again_ok = again_exact machine proper.lawful run.setup number refl state event of_run (result_of_again table run event) refl
+    again_ok = (
+      (λ ok. let taken = ok_of _ ok in again_enabled machine proper.lawful run.setup number state refl event taken.0 of_run taken.1),
+      (λ next. ap is_ok (enabled_again machine proper.lawful run.setup number state refl event next)),
+    )
 
     pub again_next : IfOk (result_of_again table run event) (IsNext table run)
-    again_next = ok_is (IsNext table run) event (result_of_again table run event) again_ok (again_same machine run.setup state event)
+    again_next = if_ok _ (λ taken h.
+        rw (again_same machine run.setup state event taken h) (again_enabled machine proper.lawful run.setup number state refl event taken of_run h))

@@ -1,20 +1,15 @@
 -- A standing event by the name that is given.
-use Rattle.std.specs.Prelude.{◌≡◌, true, Result, Err, MatchResult}
+use Rattle.std.specs.Prelude.{◌≡◌, Result, Err, MatchResult}
 use Rattle.cdb_base.specs.declared.name.StepId.{StepId}
 use Rattle.cdb_base.specs.declared.refusal.Refusal.{Refusal}
 use Rattle.cdb_rules.specs.RunView.{RunView}
 use Rattle.cdb_rules.specs.Runs.{CanUndo, undo_in}
-use Rattle.cdb_rules.specs.Undo.{event_named, names_processes}
+use Rattle.cdb_rules.specs.Undo.{event_named}
 use Rattle.cdb_standing.specs.Moves.{IsStandingName}
 
 -- why no event of the run is the one of that name
 abbrev pub IsNotFound : RunView → StepId → Refusal → Type 0
 IsNotFound run name why = event_named run.setup.processes run.history name ≡ Err why
-
--- the result is the name, whose processes the run has, or why no event has it
-abbrev pub IsNameGiven : RunView → StepId → Result StepId Refusal → Type 0
-IsNameGiven run name result =
-    MatchResult result (λ it. (it ≡ name) × (names_processes run.setup.processes name ≡ true)) (IsNotFound run name)
 
 -- the result is the name, of which an event stands, or why none does
 abbrev pub IsFound : RunView → StepId → Result StepId Refusal → Type 0

@@ -6,7 +6,7 @@ ghost use Rattle.cdb_register.specs.Registers.{RegisterStates};
 ghost use Rattle.cdb_run.specs.Back.{overwritten_cell};
 ghost use Rattle.cdb_rules.specs.InputsTaken.{mail_after, registers_after, IsPostable, sight, arriving, input_of};
 ghost use Rattle.cdb_process.specs.Wishes.{wished_payload, wished_cell};
-ghost use Rattle.cdb_run.specs.Stepped.{IsWritable};
+ghost use Rattle.cdb_run.specs.Stepped.{HasDue};
 
 use cdb_base::{Cell, Kind, MsgName, NoMemory, Payload, Proc};
 use cdb_message::mail::Mail;
@@ -62,9 +62,9 @@ pub(crate) fn due<P: Process>(local: &P, kind: &Kind) -> Option<Wish>
     ensures registers { (registers : RegisterStates) →
         registers_after registers kind.now (wished_cell result)
         ≡ registers_after registers kind.now (wished_cell (P.table.wish local.now)) }
-    ensures writable { (registers : RegisterStates) →
-        IsWritable registers kind.now (P.table.wish local.now) →
-        IsWritable registers kind.now result }
+    ensures due { (registers : RegisterStates) →
+        HasDue registers kind.now (P.table.wish local.now) →
+        HasDue registers kind.now result }
 {
     match kind {
         Kind::Send(_) | Kind::Write(_) => local.wish(),
@@ -98,7 +98,7 @@ pub(crate) fn post(
 
 /// Writes what a step writes, and returns the cell that it overwrote.
 pub(crate) fn write(registers: &mut Registers, kind: &Kind, wish: &Option<Wish>) -> Option<Cell>
-    requires { IsWritable registers.old kind.now wish.now }
+    requires { HasDue registers.old kind.now wish.now }
     ensures after { registers.new
         ≡ registers_after registers.old kind.now (wished_cell wish.now) }
     ensures overwritten { result ≡ overwritten_cell registers.old kind.now }

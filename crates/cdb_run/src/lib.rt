@@ -14,7 +14,6 @@ pub mod laws;
 mod own_steps;
 mod plan;
 mod progress;
-mod restore;
 mod run;
 mod state;
 

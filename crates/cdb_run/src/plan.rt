@@ -1,11 +1,10 @@
 //! Whether a step may be taken, and which event it is.
 
-ghost use Rattle.std.specs.Prelude.{◌≡◌, ◌≤◌, ◌==◌, true, false, None, Some, length};
+ghost use Rattle.std.specs.Prelude.{◌≡◌, ◌≤◌, Some, length};
 ghost use Rattle.cdb_message.specs.Mail.{message_name};
-ghost use Rattle.cdb_run.specs.Plans.{copy_refusal, next_step_of, step_if_accepted};
-ghost use Rattle.cdb_rules.specs.Machines.{machine_of};
-ghost use Rattle.cdb_rules.specs.Refusals.{wished_kind, accepts_kind, first_refusal, again_checks, planned};
-ghost use Rattle.cdb_rules.specs.Refusals.{planned_again, planned_loss};
+ghost use Rattle.cdb_run.specs.Plans.{IsInRun, GoesOn, sends_of, accepts, next_step_of, step_if_accepted};
+ghost use Rattle.cdb_run.specs.Plans.{plan_of, plan_again_of, copy_refusal};
+ghost use Rattle.cdb_rules.specs.Refusals.{wished_kind, unless_refused, planned_loss};
 
 use crate::among::process_among;
 use cdb_base::limits::MAX_STEPS;
@@ -15,6 +14,17 @@ use cdb_process::{Input, Process, Wish, accepts_query, accepts_receive};
 use cdb_register::Registers;
 use cdb_rules::Progress;
 use cdb_setup::Setup;
+
+/// What is seen of process `p` where a step of it is asked for: the setup, the mail and the registers as they stand,
+/// and how far the process has come.
+#[derive(Drop)]
+pub(crate) struct Seen<'a, P: Drop> {
+    pub(crate) setup: &'a Setup,
+    pub(crate) mail: &'a Mail,
+    pub(crate) registers: &'a Registers,
+    pub(crate) progress: &'a Progress<P>,
+    pub(crate) p: Proc,
+}
 
 /// The kind of step that a wish names, after this many sends.
 fn kind_of_wish(wish: &Wish, sends: u16) -> Kind
@@ -29,238 +39,182 @@ fn kind_of_wish(wish: &Wish, sends: u16) -> Kind
     }
 }
 
-/// Whether a machine accepts the step that it wishes for: a read and a write need their register, and nothing else can
-/// be lacking.
-fn is_possible<P: Process>(
-    setup: &Setup,
-    local: &P,
-    sends: u16,
-    registers: &Registers,
-    wish: &Wish,
-) -> bool
-    requires wished { P.table.wish local.now ≡ Some wish.now }
-    ensures { result ≡ accepts_kind (machine_of P.table setup.now) local.now sends registers.now
-        (wished_kind sends wish.now) }
-{
-    match wish {
-        Wish::Send(_) | Wish::Local => true,
-        Wish::Read(register) => registers.has(*register),
-        Wish::Write(register, _) => registers.has(*register),
-    }
-}
-
-/// Whether a machine accepts a step of that kind now.
-#[inline(always)]
-fn does_accept<P: Process>(
-    setup: &Setup,
-    local: &P,
-    sends: u16,
-    registers: &Registers,
-    kind: &Kind,
-) -> bool
-    requires { sends ≤ MAX_STEPS }
-    ensures { result ≡ accepts_kind (machine_of P.table setup.now) local.now sends registers.now
-        kind.now }
-{
-    match kind {
-        Kind::Query(_) => accepts_query(local),
-        Kind::Send(m) => *m == sends + 1 && local.accepts(&Input::Send),
-        Kind::Recv(_, _) => accepts_receive(local),
-        Kind::Read(register) => {
-            registers.has(*register)
-                && local.accepts(&Input::Read(*register, registers.read(*register)))
+impl<P: Process> Seen<'_, P> {
+    /// Whether the machine accepts the step that it wishes for: a read and a write need their register, and nothing
+    /// else can be lacking.
+    fn is_possible(&self, wish: &Wish) -> bool
+        requires { P.table.wish self.now.progress.now.local ≡ Some wish.now }
+        ensures { result ≡ accepts P.table self.now (wished_kind (sends_of self.now) wish.now) }
+    {
+        match wish {
+            Wish::Send(_) | Wish::Local => true,
+            Wish::Read(register) | Wish::Write(register, _) => self.registers.has(*register),
         }
-        Kind::Write(register) => {
-            registers.has(*register) && local.accepts(&Input::Write(*register))
+    }
+
+    /// Whether the machine accepts a step of that kind now.
+    #[inline(always)]
+    fn does_accept(&self, kind: &Kind) -> bool
+        ensures { result ≡ accepts P.table self.now kind.now }
+    {
+        let local = &self.progress.local;
+        match kind {
+            Kind::Query(_) => accepts_query(local),
+            Kind::Send(m) => *m == self.mail.count_sent(self.p) + 1 && local.accepts(&Input::Send),
+            Kind::Recv(_, _) => accepts_receive(local),
+            Kind::Read(register) => {
+                self.registers.has(*register)
+                    && local.accepts(&Input::Read(*register, self.registers.read(*register)))
+            }
+            Kind::Write(register) => {
+                self.registers.has(*register) && local.accepts(&Input::Write(*register))
+            }
+            Kind::Local => local.accepts(&Input::Local),
+            Kind::Learn => local.accepts(&Input::Learn),
+            Kind::Crash => true,
         }
-        Kind::Local => local.accepts(&Input::Local),
-        Kind::Learn => local.accepts(&Input::Learn),
-        Kind::Crash => true,
+    }
+
+    /// The next step of the process, where it has fewer than it may have.
+    fn next_step(&self, kind: Kind) -> Result<Event, Refusal>
+        ensures { result ≡ next_step_of self.now kind }
+    {
+        if self.progress.steps >= u32::from(MAX_STEPS) {
+            return Err(Refusal::StepLimit);
+        }
+        let k = self.progress.steps as u16 + 1;
+        Ok(Event::Step { p: self.p, k, kind })
+    }
+
+    /// What the process learns, or that it crashes.
+    fn plan_kind(&self, kind: Kind) -> Result<Event, Refusal>
+        ensures { result ≡ step_if_accepted P.table self.now kind }
+    {
+        let asked = kind;
+        if !self.does_accept(&asked) {
+            return Err(Refusal::NotNow);
+        }
+        self.next_step(kind)
+    }
+
+    /// What the process does of itself.
+    fn plan_go(&self) -> Result<Event, Refusal>
+        requires { GoesOn P.table self.now }
+        ensures { result ≡ plan_of P.table self.now Act.Go }
+    {
+        let Some(wish) = self.progress.local.wish() else {
+            return Err(Refusal::NotNow);
+        };
+        if !self.is_possible(&wish) {
+            return Err(Refusal::NotNow);
+        }
+        self.next_step(kind_of_wish(&wish, self.mail.count_sent(self.p)))
+    }
+
+    /// The process asks the oracle, for the setup's next answer or with the leader that is named.
+    fn plan_query(&self, named: Option<u32>) -> Result<Event, Refusal>
+        requires { GoesOn P.table self.now }
+        ensures { result ≡ plan_of P.table self.now (Act.Query named) }
+    {
+        if !accepts_query(&self.progress.local) {
+            return Err(Refusal::NotNow);
+        }
+        match named {
+            None => match self.setup.answer(self.p, self.progress.queries + 1) {
+                Some(leader) => self.next_step(Kind::Query(leader)),
+                None => Err(Refusal::NoAnswer),
+            },
+            Some(leader) => match process_among(self.setup.n(), leader) {
+                Some(leader) => self.next_step(Kind::Query(leader)),
+                None => Err(Refusal::BadLeader),
+            },
+        }
+    }
+
+    /// The process receives the `m`-th message of process `s`.
+    fn plan_recv(&self, s: u32, m: u32) -> Result<Event, Refusal>
+        requires { GoesOn P.table self.now }
+        ensures { result ≡ plan_of P.table self.now (Act.Recv s m) }
+    {
+        if !accepts_receive(&self.progress.local) {
+            return Err(Refusal::NotNow);
+        }
+        let Some(name) = self.mail.find(s, m) else {
+            return Err(Refusal::NoMessage);
+        };
+        let asked = name;
+        if self.mail.has_received(self.p, asked) {
+            return Err(Refusal::Taken);
+        }
+        let step = self.next_step(Kind::Recv(name.s, name.m))?;
+        if self.mail.lost(self.p, name) {
+            return Err(Refusal::Lost);
+        }
+        Ok(step)
+    }
+
+    /// What a step of the process returns: the first refusal that holds, else the event that the act names.
+    pub(crate) fn plan(&self, act: Act) -> Result<Event, Refusal>
+        requires { IsInRun self.now }
+        ensures { result ≡ plan_of P.table self.now act }
+    {
+        if !self.progress.alive {
+            return Err(Refusal::Crashed);
+        }
+        if self.progress.local.decision().is_some() {
+            return Err(Refusal::Done);
+        }
+        match act {
+            Act::Go => self.plan_go(),
+            Act::Learn => self.plan_kind(Kind::Learn),
+            Act::Crash => self.plan_kind(Kind::Crash),
+            Act::Query(named) => self.plan_query(named),
+            Act::Recv(s, m) => self.plan_recv(s, m),
+        }
+    }
+
+    /// What taking the `k`-th step of the process again returns.
+    pub(crate) fn plan_again(&self, k: u16, kind: &Kind) -> Result<Event, Refusal>
+        requires { IsInRun self.now }
+        ensures { result ≡ plan_again_of P.table self.now k kind.now }
+    {
+        let progress = self.progress;
+        if u32::from(k) != progress.steps + 1 {
+            return Err(Refusal::Moved);
+        }
+        if !progress.alive {
+            return Err(Refusal::Crashed);
+        }
+        if progress.local.decision().is_some() {
+            return Err(Refusal::Done);
+        }
+        if !self.does_accept(kind) {
+            return Err(Refusal::NotNow);
+        }
+        let p = self.p;
+        let again = Event::Step { p, k, kind: *kind };
+        match kind {
+            Kind::Recv(s, m) => with_open_copy(self.mail, p, &MsgName { s: *s, m: *m }, again),
+            _ => Ok(again),
+        }
     }
 }
 
-/// The next step of process `p`, where it has fewer than it may have.
-fn next_step<P: Process>(progress: &Progress<P>, p: Proc, kind: Kind) -> Result<Event, Refusal>
-    ensures { result ≡ next_step_of progress.now p kind }
-{
-    if progress.steps >= u32::from(MAX_STEPS) {
-        return Err(Refusal::StepLimit);
-    }
-    let k = progress.steps as u16 + 1;
-    Ok(Event::Step { p, k, kind })
-}
-
-/// What a process does of itself, learns, or that it crashes.
-fn plan_kind<P: Process>(
-    setup: &Setup,
-    mail: &Mail,
-    registers: &Registers,
-    progress: &Progress<P>,
-    p: Proc,
-    kind: Kind,
-) -> Result<Event, Refusal>
-    ensures { result ≡ step_if_accepted P.table setup.now mail.now registers.now progress.now p
-        kind }
-{
-    let asked = kind;
-    if !does_accept(
-        setup,
-        &progress.local,
-        mail.count_sent(p),
-        registers,
-        &asked,
-    ) {
-        return Err(Refusal::NotNow);
-    }
-    next_step(progress, p, kind)
-}
-
-/// What process `p` does of itself.
-fn plan_go<P: Process>(
-    setup: &Setup,
-    mail: &Mail,
-    registers: &Registers,
-    progress: &Progress<P>,
-    p: Proc,
-) -> Result<Event, Refusal>
-    requires alive { progress.now.alive ≡ true }
-    requires going { (P.table.place progress.now.local == P.table.last_place) ≡ false }
-    ensures { result ≡ planned (machine_of P.table setup.now) setup.now mail.now registers.now progress.now p Act.Go }
-{
-    let Some(wish) = progress.local.wish() else {
-        return Err(Refusal::NotNow);
-    };
-    let sends = mail.count_sent(p);
-    if !is_possible(setup, &progress.local, sends, registers, &wish) {
-        return Err(Refusal::NotNow);
-    }
-    next_step(progress, p, kind_of_wish(&wish, sends))
-}
-
-/// Process `p` asks the oracle, for the setup's next answer.
-fn plan_query<P: Process>(
-    setup: &Setup,
-    mail: &Mail,
-    registers: &Registers,
-    progress: &Progress<P>,
-    p: Proc,
-) -> Result<Event, Refusal>
-    requires alive { progress.now.alive ≡ true }
-    requires going { (P.table.place progress.now.local == P.table.last_place) ≡ false }
-    requires queries { progress.now.queries ≤ MAX_STEPS }
-    ensures { result ≡ planned (machine_of P.table setup.now) setup.now mail.now registers.now progress.now p
-        (Act.Query None) }
-{
-    if !accepts_query(&progress.local) {
-        return Err(Refusal::NotNow);
-    }
-    let Some(leader) = setup.answer(p, progress.queries + 1) else {
-        return Err(Refusal::NoAnswer);
-    };
-    next_step(progress, p, Kind::Query(leader))
-}
-
-/// Process `p` asks the oracle, which names that leader.
-fn plan_result<P: Process>(
-    setup: &Setup,
-    mail: &Mail,
-    registers: &Registers,
-    progress: &Progress<P>,
-    p: Proc,
-    leader: u32,
-) -> Result<Event, Refusal>
-    requires alive { progress.now.alive ≡ true }
-    requires going { (P.table.place progress.now.local == P.table.last_place) ≡ false }
-    ensures { result ≡ planned (machine_of P.table setup.now) setup.now mail.now registers.now progress.now p
-        (Act.Query (Some leader)) }
-{
-    if !accepts_query(&progress.local) {
-        return Err(Refusal::NotNow);
-    }
-    let Some(leader) = process_among(setup.n(), leader) else {
-        return Err(Refusal::BadLeader);
-    };
-    next_step(progress, p, Kind::Query(leader))
-}
-
-/// Process `p` receives the `m`-th message of process `s`.
-fn plan_recv<P: Process>(
-    setup: &Setup,
-    mail: &Mail,
-    registers: &Registers,
-    progress: &Progress<P>,
-    p: Proc,
-    s: u32,
-    m: u32,
-) -> Result<Event, Refusal>
-    requires among { p ≤ length mail.now.received }
-    requires alive { progress.now.alive ≡ true }
-    requires going { (P.table.place progress.now.local == P.table.last_place) ≡ false }
-    ensures { result ≡ planned (machine_of P.table setup.now) setup.now mail.now registers.now progress.now p
-        (Act.Recv s m) }
-{
-    if !accepts_receive(&progress.local) {
-        return Err(Refusal::NotNow);
-    }
-    let Some(name) = mail.find(s, m) else {
-        return Err(Refusal::NoMessage);
-    };
-    let asked = name;
-    if mail.has_received(p, asked) {
-        return Err(Refusal::Taken);
-    }
-    let step = next_step(progress, p, Kind::Recv(name.s, name.m))?;
-    if mail.lost(p, name) {
-        return Err(Refusal::Lost);
-    }
-    Ok(step)
-}
-
-/// What a step of process `p` returns: the first refusal that holds, else the event that the act
-/// names.
-pub(crate) fn plan<P: Process>(
-    setup: &Setup,
-    mail: &Mail,
-    registers: &Registers,
-    progress: &Progress<P>,
-    p: Proc,
-    act: Act,
-) -> Result<Event, Refusal>
-    requires among { p ≤ length mail.now.received }
-    requires queries { progress.now.queries ≤ MAX_STEPS }
-    ensures { result ≡ planned (machine_of P.table setup.now) setup.now mail.now registers.now progress.now p act }
-{
-    if !progress.alive {
-        return Err(Refusal::Crashed);
-    }
-    if progress.local.decision().is_some() {
-        return Err(Refusal::Done);
-    }
-    match act {
-        Act::Go => plan_go(setup, mail, registers, progress, p),
-        Act::Learn => plan_kind(setup, mail, registers, progress, p, Kind::Learn),
-        Act::Crash => plan_kind(setup, mail, registers, progress, p, Kind::Crash),
-        Act::Query(None) => plan_query(setup, mail, registers, progress, p),
-        Act::Query(Some(leader)) => plan_result(setup, mail, registers, progress, p, leader),
-        Act::Recv(s, m) => plan_recv(setup, mail, registers, progress, p, s, m),
-    }
-}
-
-/// Why the copy of a message for process `p` can be neither received nor lost, if it cannot.
-fn refuses_copy(mail: &Mail, p: Proc, name: &MsgName) -> Option<Refusal>
-    requires among { p ≤ length mail.now.received }
-    ensures { result ≡ copy_refusal mail.now p name.now }
+/// The event, where the copy of a message for process `p` can be received or lost; else why it can be neither.
+fn with_open_copy(mail: &Mail, p: Proc, name: &MsgName, event: Event) -> Result<Event, Refusal>
+    requires { p ≤ length mail.now.received }
+    ensures { result ≡ unless_refused (copy_refusal mail.now p name.now) (Some event) }
 {
     if mail.payload(*name).is_none() {
-        return Some(Refusal::NoMessage);
+        return Err(Refusal::NoMessage);
     }
     if mail.has_received(p, *name) {
-        return Some(Refusal::Taken);
+        return Err(Refusal::Taken);
     }
     if mail.lost(p, *name) {
-        return Some(Refusal::Lost);
+        return Err(Refusal::Lost);
     }
-    None
+    Ok(event)
 }
 
 /// What losing the copy of the `m`-th message of process `s` for process `p` returns.
@@ -283,76 +237,6 @@ pub(crate) fn plan_loss(
     let Some(msg) = mail.find(s, m) else {
         return Err(Refusal::NoMessage);
     };
-    if let Some(refusal) = refuses_copy(mail, to, &msg) {
-        return Err(refusal);
-    }
-    Ok(Event::Lost(CopyName { msg, to }))
-}
-
-/// Why a step that was undone is not taken again, if it is not.
-fn refuses_again<P: Process>(
-    setup: &Setup,
-    mail: &Mail,
-    registers: &Registers,
-    progress: &Progress<P>,
-    p: Proc,
-    k: u16,
-    kind: &Kind,
-) -> Option<Refusal>
-    requires among { p ≤ length mail.now.received }
-    requires steps { progress.now.steps ≤ MAX_STEPS }
-    ensures { result ≡ first_refusal
-        (again_checks (machine_of P.table setup.now) mail.now registers.now progress.now p k kind.now) }
-{
-    if u32::from(k) != progress.steps + 1 {
-        return Some(Refusal::Moved);
-    }
-    if !progress.alive {
-        return Some(Refusal::Crashed);
-    }
-    if progress.local.decision().is_some() {
-        return Some(Refusal::Done);
-    }
-    if !does_accept(setup, &progress.local, mail.count_sent(p), registers, kind) {
-        return Some(Refusal::NotNow);
-    }
-    match kind {
-        Kind::Recv(s, m) => refuses_copy(mail, p, &MsgName { s: *s, m: *m }),
-        _ => None,
-    }
-}
-
-/// What taking the `k`-th step of process `p` again returns.
-pub(crate) fn plan_again<P: Process>(
-    setup: &Setup,
-    mail: &Mail,
-    registers: &Registers,
-    progress: &Progress<P>,
-    p: Proc,
-    k: u16,
-    kind: &Kind,
-) -> Result<Event, Refusal>
-    requires among { p ≤ length mail.now.received }
-    requires steps { progress.now.steps ≤ MAX_STEPS }
-    ensures { result ≡ planned_again (machine_of P.table setup.now) mail.now registers.now progress.now p k
-        kind.now }
-{
-    match refuses_again(setup, mail, registers, progress, p, k, kind) {
-        Some(refusal) => Err(refusal),
-        None => Ok(Event::Step { p, k, kind: *kind }),
-    }
-}
-
-/// What losing a copy again for a process of the run returns, where copies can be lost.
-pub(crate) fn plan_loss_again(setup: &Setup, mail: &Mail, copy: &CopyName) -> Result<Event, Refusal>
-    requires loses { setup.now.version ≡ 2 }
-    requires among { copy.now.to ≤ setup.now.processes }
-    requires receivers { length mail.now.received ≡ setup.now.processes }
-    ensures { result ≡ planned_loss setup.now mail.now copy.now.msg copy.now.to }
-{
-    let _from_one = copy.to.number();
-    match refuses_copy(mail, copy.to, &copy.msg) {
-        Some(refusal) => Err(refusal),
-        None => Ok(Event::Lost(*copy)),
-    }
+    let name = msg;
+    with_open_copy(mail, to, &name, Event::Lost(CopyName { msg, to }))
 }

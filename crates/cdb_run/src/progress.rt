@@ -5,6 +5,7 @@ ghost use Rattle.std.specs.Option.{ForSome};
 ghost use Rattle.cdb_base.specs.Limits.{MAX_PROCESSES, MAX_STEPS};
 ghost use Rattle.cdb_rules.specs.Decisions.{decided_from};
 ghost use Rattle.cdb_run.specs.Back.{put_back};
+ghost use Rattle.cdb_run.specs.Stepped.{HasCounted};
 ghost use Rattle.cdb_rules.specs.InputsTaken.{taken_local, progress_after};
 
 use cdb_base::{Kind, NoMemory, Proc, Val};
@@ -50,6 +51,19 @@ pub(crate) fn count<P: Process>(progress: &mut Progress<P>, kind: &Kind)
         Kind::Query(_) => progress.queries += 1,
         Kind::Crash => progress.alive = false,
         _ => {}
+    }
+}
+
+/// Takes a step of that kind, with what its input left, back to the progress from which it was taken.
+pub(crate) fn count_back<P: Process>(progress: &mut Progress<P>, kind: &Kind, back: Option<P::Back>)
+    requires { (was : Progress P) × HasCounted P.before was kind.now back progress.old }
+    ensures { (was : Progress P) → HasCounted P.before was kind.now back progress.old → progress.new ≡ was }
+{
+    give_back(&mut progress.local, back);
+    progress.alive = true;
+    progress.steps -= 1;
+    if let Kind::Query(_) = kind {
+        progress.queries -= 1;
     }
 }
 

@@ -1,12 +1,12 @@
 //! A run, with one current state and a record of each standing event.
 
-ghost use Rattle.std.specs.Prelude.{◌≡◌, ◌≤◌, ◌↔◌, [], length, true, None, Some, is_some};
+ghost use Rattle.std.specs.Prelude.{◌≡◌, ◌≤◌, ◌↔◌, ℕ, [], length, true, None, Some, is_some};
 ghost use Rattle.std.specs.Prelude.{IsTrue, IsSome, IfSome, IsOk, IfOk, OnOk, OnErr, IfNone};
 ghost use Rattle.std.specs.Option.{option_copied};
 ghost use Rattle.std.specs.Result.{result_err, result_ok};
 ghost use Rattle.cdb_message.specs.Mail.{next_pending, payload_of, is_lost};
 ghost use Rattle.cdb_rules.specs.Auto.{first_step_in};
-ghost use Rattle.cdb_run.specs.Plans.{receive_of};
+ghost use Rattle.cdb_run.specs.Plans.{IsInRun, plan_of, plan_again_of, receive_of};
 ghost use Rattle.cdb_run.specs.Proper.{IsProper};
 ghost use Rattle.cdb_rules.specs.Refusals.{IsOfRun};
 ghost use Rattle.cdb_rules.specs.Step.{is_among};
@@ -16,7 +16,7 @@ ghost use Rattle.cdb_rules.specs.Runs.{cell_in, writes_in, decisions_in, result_
 ghost use Rattle.cdb_rules.specs.Runs.{result_of_loss, with_event, with_result, IsJustTaken};
 
 use crate::among::{names_process, process_among};
-use crate::plan::{plan, plan_again, plan_loss, plan_loss_again};
+use crate::plan::{Seen, plan_loss};
 use crate::progress::decided;
 use crate::state::State;
 use cdb_base::limits::MAX_STEPS;
@@ -162,6 +162,24 @@ impl<P: Process> Run<P> {
         &self.state.processes[p.index()]
     }
 
+    /// What is seen of a process.
+    fn seen(&self, p: Proc) -> Seen<'_, P>
+        requires { p ≤ self.now.setup.processes }
+        ensures in_run { IsInRun result }
+        ensures steps { (act : Act) → plan_of P.table result act ≡ result_of_step P.table self.now p act }
+        ensures again { (k : ℕ) (kind : Kind) → plan_again_of P.table result k kind
+            ≡ result_of_again P.table self.now (Event.Step p k kind) }
+    {
+        self.proper();
+        Seen {
+            setup: self.setup(),
+            mail: self.mail(),
+            registers: self.registers(),
+            progress: self.progress(p),
+            p,
+        }
+    }
+
     /// What a step of process `p` returns.
     fn plan(&self, p: u32, act: Act) -> Result<Event, Refusal>
         ensures returns { result ≡ result_of_step P.table self.now p act }
@@ -171,14 +189,7 @@ impl<P: Process> Run<P> {
         let Some(process) = self.process(p) else {
             return Err(Refusal::NoProcess);
         };
-        plan(
-            self.setup(),
-            self.mail(),
-            self.registers(),
-            self.progress(process),
-            process,
-            act,
-        )
+        self.seen(process).plan(act)
     }
 
     /// What a step of process `p` would be refused with, if it would be.
@@ -298,16 +309,12 @@ impl<P: Process> Run<P> {
     {
         self.proper();
         match event {
-            Event::Step { p, k, kind } => plan_again(
-                self.setup(),
-                self.mail(),
-                self.registers(),
-                self.progress(*p),
-                *p,
-                *k,
-                kind,
+            Event::Step { p, k, kind } => self.seen(*p).plan_again(*k, kind),
+            Event::Lost(copy) => self.plan_loss(
+                u32::from(copy.msg.s.number()),
+                u32::from(copy.msg.m),
+                u32::from(copy.to.number()),
             ),
-            Event::Lost(copy) => plan_loss_again(self.setup(), self.mail(), copy),
         }
     }
 
@@ -423,7 +430,7 @@ impl<P: Process> Run<P> {
     }
 
     /// The mail as it stands.
-    fn mail(&self) -> &Mail
+    pub fn mail(&self) -> &Mail
         ensures mail { result.now ≡ mail_in P.table self.now }
         ensures receivers { length result.now.received ≡ self.now.setup.processes }
     {
@@ -432,7 +439,7 @@ impl<P: Process> Run<P> {
     }
 
     /// The registers as they stand.
-    fn registers(&self) -> &Registers
+    pub fn registers(&self) -> &Registers
         ensures { result.now ≡ registers_in P.table self.now }
     {
         &self.state.registers

@@ -2,9 +2,8 @@
 
 use crate::change::{due, input_at, post, write};
 use crate::first::{first_processes, with_registers};
-use crate::progress::{count, give_back, take_input};
-use crate::restore::{count_back, post_back, write_back};
-use cdb_base::{Kind, NoMemory, Proc};
+use crate::progress::{count, count_back, give_back, take_input};
+use cdb_base::{Kind, MsgName, NoMemory, Proc};
 use cdb_message::mail::Mail;
 use cdb_process::Process;
 use cdb_register::Registers;
@@ -26,9 +25,8 @@ impl<P: Process> State<P> {
     ghost use Rattle.cdb_message.specs.Mail.{first_mail};
     ghost use Rattle.cdb_register.specs.Registers.{fresh_registers};
     ghost use Rattle.cdb_rules.specs.Machines.{progress_at_start, uses_registers};
-    ghost use Rattle.cdb_run.specs.Current.{held_in};
+    ghost use Rattle.cdb_run.specs.Current.{Held, held_in};
     ghost use Rattle.cdb_run.specs.Stepped.{MayStep, HasStepped};
-    ghost use Rattle.cdb_run.specs.Restored.{MayTakeBack, HasTakenBack};
 
     /// The state of a run of a setup in which nothing has happened.
     pub(crate) fn first(alloc: Global, setup: &Setup) -> Result<Self, NoMemory>
@@ -76,12 +74,21 @@ impl<P: Process> State<P> {
 
     /// Takes back the last step of process `p`, with all that it changed. It takes no memory.
     pub(crate) fn take_back(&mut self, p: Proc, kind: &Kind, left: UndoData<P::Back>)
-        requires { MayTakeBack (held_in self.old) p kind.now left.overwritten }
-        ensures { HasTakenBack P.before (held_in self.old) p kind.now left (held_in self.new) }
+        requires { (was : Held P) × HasStepped P.table P.before was p kind.now left (held_in self.old) }
+        ensures { (was : Held P) → HasStepped P.table P.before was p kind.now left (held_in self.old)
+            → held_in self.new ≡ was }
     {
         let progress = &mut self.processes[p.index()];
         count_back(progress, kind, left.back);
-        post_back(&mut self.mail, p, kind);
-        write_back(&mut self.registers, kind, left.overwritten);
+        match kind {
+            Kind::Send(_) => self.mail.take_back_send(p),
+            Kind::Recv(s, m) => self.mail.take_back_recv(p, MsgName { s: *s, m: *m }),
+            Kind::Write(register) => {
+                if let Some(cell) = left.overwritten {
+                    self.registers.restore(*register, cell);
+                }
+            }
+            _ => {}
+        }
     }
 }

@@ -8,7 +8,7 @@ use Rattle.cdb_base.specs.declared.event.Event.{Event}
 use Rattle.cdb_causal.specs.Exchange.{here, there, IsBefore, IsEachOnce}
 use Rattle.cdb_causal.specs.StandingEvents.{IsStanding}
 use Rattle.cdb_rules.proofs.ListMembers.{position_in}
-use Rattle.cdb_rules.proofs.NamedEvents.{in_position}
+use Rattle.cdb_rules.proofs.ValidHistories.{in_position}
 
 module _ {E : Type 0} where
   pub before_at : (xs : List E) (i j : ℕ) (a b : E) → i < j → nth xs i ≡ Some a → nth xs j ≡ Some b → IsBefore a b xs

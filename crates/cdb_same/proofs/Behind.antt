@@ -14,11 +14,11 @@ use Rattle.cdb_causal.specs.DirectCauses.{AreDirectCauses}
 use Rattle.cdb_causal.specs.Exchange.{IsBefore, KeepsOrder}
 use Rattle.cdb_causal.specs.Past.{one_link}
 use Rattle.cdb_rules.proofs.Flagged.{item_at}
+use Rattle.cdb_causal.proofs.PastLaws.{by_causes}
 use Rattle.cdb_rules.proofs.ListMembers.{position_in}
-use Rattle.cdb_rules.proofs.NamedEvents.{in_position}
+use Rattle.cdb_rules.proofs.ValidHistories.{in_position}
 use Rattle.cdb_standing.specs.Moves.{IsNamed}
 use Rattle.cdb_same.proofs.Before.{apart, before_at, before_then, one_position}
-use Rattle.cdb_same.proofs.Causes.{by_causes}
 use Rattle.cdb_same.specs.Come.{AreCounts, CausesHaveCome, HasCausesBefore, HasCome, HaveCome, IsCauseToCome, IsNotCome, StandWithin}
 use Rattle.cdb_same.specs.Comparisons.{AreTurned, IsComparable}
 
@@ -40,7 +40,8 @@ module _ (history others : List Event) (its : IsComparable others) (direct : (ef
       let found = apart before in
       let link = link_at depends history found.one found.other first second found.at_one found.at_other found.order linked in
       ⊎_elim (λ same. absurd (omega arith)) (λ leads. leads first found.at_one)
-      (by_causes history found.other (LeadsTo found.other second) (inl refl) (behind_cause found.other second found.at_other) found.one (inr (one_link link)))
+      (by_causes depends history found.other (LeadsTo found.other second) (inl refl) (behind_cause found.other second found.at_other)
+      found.one (inr (one_link link)))
 
 module _ (history others : List Event) (comparable : IsComparable history) (its : IsComparable others) (within : StandWithin history others)
     (end : ℕ) (effect : Event) (stands : nth others (suc end) ≡ Some effect) (counts : List ℕ) (so_far : AreCounts others end counts) where

@@ -3,7 +3,6 @@ pub mod Ranks
 pub mod Counted
 pub mod StandingSteps
 pub mod Before
-pub mod Causes
 pub mod Behind
 pub mod Apart
 -- what two scripts leave

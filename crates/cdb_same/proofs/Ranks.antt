@@ -1,5 +1,5 @@
 -- The number of a step is its rank among the steps of its process, and the steps that have come are counted by these.
-use Rattle.std.proofs.Common.{◌≡◌, ℕ, zero, suc, ◌+◌, ◌<◌, ◌≤◌, ◌↔◌, ⊎_elim, Bool, true, false, cond, List}
+use Rattle.std.proofs.Common.{◌≡◌, ℕ, zero, suc, ◌+◌, ◌<◌, ◌≤◌, ◌↔◌, ⊎_elim, Bool, true, cond, List}
 use Rattle.std.proofs.Common.{[], ◌∷◌, length, take, filter, slice_get, Some, refl, ap, eq-eqb, add-one, arith}
 use Rattle.std.proofs.lemmas.Bool.{cases_lt}
 use Rattle.std.proofs.lemmas.List.Filters.{length-filter_more}
@@ -26,9 +26,6 @@ module _ {E : Type 0} (test : E → Bool) where
 
     pub next_passes : test x ≡ true → rank xs (suc i) ≡ suc (rank xs i)
     next_passes passes = let more = rw passes at next_counted in omega (arith, more)
-
-    pub next_fails : test x ≡ false → rank xs (suc i) ≡ rank xs i
-    next_fails fails = let more = rw fails at next_counted in omega (arith, more)
 
   kept_at : (xs : List E) (i : ℕ) (e : E) → slice_get xs i ≡ Some e → test e ≡ true → slice_get (filter test xs) (rank xs i) ≡ Some e
   kept_at [] i e stands passes = absurd cc

@@ -10,7 +10,7 @@ use Rattle.cdb_base.specs.declared.event.Event.{Event}
 use Rattle.cdb_causal.specs.Exchange.{IsIn}
 use Rattle.cdb_causal.specs.Names.{IsNewName}
 use Rattle.cdb_rules.proofs.ListMembers.{position_in}
-use Rattle.cdb_rules.proofs.NamedEvents.{in_position}
+use Rattle.cdb_rules.proofs.ValidHistories.{in_position}
 use Rattle.cdb_standing.specs.Moves.{IsNamed}
 
 same_event : (a b : Event) → compared.ghosts.eq a b ≡ true → a ≡ b

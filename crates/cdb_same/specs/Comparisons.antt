@@ -23,9 +23,8 @@ pub record AreTurned (history other : List Event) (first second : Event) : Type 
   pub order : IsBefore first second history
   pub turned : IsBefore second first other
 
--- The comparison shows how the histories compare: exchanges of independent neighbours lead from one to the other; or
--- an event
--- stands in one alone; or two that depend on each other stand in other orders.
+-- The comparison shows how the histories compare: exchanges of independent neighbours lead from one to the other; or an
+-- event stands in one alone; or two that depend on each other stand in other orders.
 abbrev pub IsComparison : List Event → List Event → Comparison → Type 0
 IsComparison history other Same = IsExchanged depends history other
 IsComparison history other (Alone First event) = IsAlone history other event

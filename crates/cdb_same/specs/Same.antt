@@ -1,5 +1,5 @@
 -- What the subcommand writes: how the runs compare that two scripts leave.
-use Rattle.std.specs.Prelude.{◌≡◌, ◌⊎◌, ◌↔◌, ℕ, ◌≤◌, Bool, List, length, IsTrue, Result, Ok, Err}
+use Rattle.std.specs.Prelude.{◌≡◌, ◌⊎◌, ◌↔◌, ℕ, ◌≤◌, ⊤, Bool, List, length, IsTrue, Result, Ok, Err}
 use Rattle.cdb_base.specs.declared.event.Event.{Event}
 use Rattle.cdb_causal.specs.Dependence.{depends}
 use Rattle.cdb_causal.specs.Exchange.{IsExchanged}
@@ -11,9 +11,8 @@ use Rattle.cdb_setup.specs.Format.{longest}
 use Rattle.cdb_setup.specs.Order.{IsFirstFault}
 use Rattle.cdb_setup.specs.Parts.{Parts}
 use Rattle.cdb_streams.specs.Endings.{Ending, Complete, WriterFailed, NotBegun}
-use Rattle.cdb_streams.specs.Faults.{IsSetup, of_output}
+use Rattle.cdb_streams.specs.Faults.{IsSetup}
 use Rattle.cdb_streams.specs.Scripts.{IsFaultOfScript, IsScript}
-use Rattle.cdb_streams.specs.declared.buffer.OutputFault.{OutputFault}
 use Rattle.cdb_streams.specs.declared.fault.PlayFault.{PlayFault}
 use Rattle.cdb_streams.specs.declared.fault.PlayFault.TheVariants.{Setup, Line, ScriptTooLong, Read, Write, NoMemory}
 use Rattle.cdb_streams.specs.declared.script.ScriptFault.{ScriptFault}
@@ -54,17 +53,9 @@ same_ending (Err fault) = NotBegun
 
 -- the writer failed, or an allocation
 abbrev pub IsFaultOfOutput : PlayFault → Type 0
-IsFaultOfOutput fault = (why : OutputFault) × (fault ≡ of_output why)
-
--- the first fault of the setup, or of the only script; or an allocation failed
-abbrev pub IsFaultOfRun : List ℕ → List ℕ → PlayFault → Type 0
-IsFaultOfRun json bytes (Setup fault) = IsFirstFault fault json
-IsFaultOfRun json bytes (Line number line fault) =
-    (number ≡ 1) × IsSetup json × IsFaultOfScript (script.Line line fault) bytes
-IsFaultOfRun json bytes (ScriptTooLong number) = (number ≡ 1) × IsSetup json × IsFaultOfScript script.TooLong bytes
-IsFaultOfRun json bytes Read = ⊥
-IsFaultOfRun json bytes Write = ⊥
-IsFaultOfRun json bytes (NoMemory refused) = length json ≤ longest
+IsFaultOfOutput Write = ⊤
+IsFaultOfOutput (NoMemory refused) = ⊤
+IsFaultOfOutput fault = ⊥
 
 -- the fault of a script, as that of the second one
 abbrev pub as_second : PlayFault → PlayFault

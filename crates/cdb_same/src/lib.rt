@@ -1,6 +1,5 @@
 //! Whether two scripts leave the same run, and else what tells their runs apart. The functions of `laws` do nothing:
-//! the
-//! contract of each is the law.
+//! the contract of each is the law.
 //!
 //! ```text
 //! let is_same = same::<AnyRun, _>(alloc, setup, first, second, &mut output)?;
@@ -18,4 +17,4 @@ mod writes;
 pub use compare::{Comparison, Which};
 pub use order::numbered;
 pub use runs::{compare_runs, history_of};
-pub use writes::{run_of, same};
+pub use writes::same;

@@ -1,6 +1,5 @@
 //! Events that stand in the other order in another history. The other one is gone through in its order, and of each
-//! process it is
-//! known how many steps have come: the direct causes of the next event have to be among them.
+//! process it is known how many steps have come: the direct causes of the next event have to be among them.
 
 ghost use Rattle.std.specs.Prelude.{◌≡◌, ◌↔◌, ℕ, ◌≤◌, suc, IsTrue, MatchOption, Some};
 ghost use Rattle.cdb_base.specs.Event.{event_name};
@@ -17,8 +16,7 @@ use cdb_standing::History;
 use std::alloc::Global;
 
 /// Whether the event of that name has come: a step up to the count of its process. On a loss nothing depends, so none
-/// is waited
-/// for.
+/// is waited for.
 fn has_come(counts: &[u16; 9], name: &StepId) -> bool
     ensures { IsTrue result ↔ HasCome counts.now name.now }
 {
@@ -79,8 +77,7 @@ fn count(counts: &mut [u16; 9], history: &History, event: &Event)
 }
 
 /// Two events that depend on each other and stand in both histories, in this order in the first, and turned round in
-/// the
-/// second: of those that come last the first in the second history.
+/// the second: of those that come last the first in the second history.
 pub(crate) fn other_order(
     alloc: Global,
     first: &History,

@@ -8,7 +8,7 @@ ghost use Rattle.cdb_same.specs.Comparisons.{IsComparable, IsComparison};
 
 use crate::compare::{Comparison, compare};
 use cdb_base::NoMemory;
-use cdb_explain::{fresh, take_next};
+use cdb_explain::played;
 use cdb_rules::{Runs, Trace};
 use cdb_standing::History;
 use std::alloc::Global;
@@ -19,13 +19,9 @@ pub fn history_of<T: Runs>(alloc: Global, run: &Trace) -> Result<History, NoMemo
     ensures history { IfOk result (λ history. history ≡ run.now.history) }
     ensures comparable { IfOk result IsComparable }
 {
-    let mut again = fresh::<T>(alloc, run)?;
     // Its clause says that the parts of the setup are in range.
     let _ranges = run.setup().n();
-    let events = run.events();
-    for i in 0..events.len() {
-        take_next(alloc, &mut again, &events[i])?;
-    }
+    let again = played::<T>(alloc, run, run.events())?;
     let (_setup, history) = again.into_parts();
     Ok(history)
 }
@@ -35,10 +31,8 @@ pub fn history_of<T: Runs>(alloc: Global, run: &Trace) -> Result<History, NoMemo
 /// which event stands in one alone, or which two that depend on each other stand in other orders. Each is played again.
 ///
 /// Promise: Two runs are shown to be the same exactly where exchanges of independent neighbours lead from one history
-/// to the
-/// other. Else an event is named that stands in one alone, or two that depend on each other, in the order of the
-/// first, which
-/// stand turned round in the second.
+/// to the other. Else an event is named that stands in one alone, or two that depend on each other, in the order of the
+/// first, which stand turned round in the second.
 pub fn compare_runs<T: Runs>(
     alloc: Global,
     first: &Trace,

@@ -1,12 +1,11 @@
 //! The text of a comparison.
 
-ghost use Rattle.std.specs.Prelude.{◌≡◌, ◌++◌, codes, IfOk};
-ghost use Rattle.cdb_text.specs.Events.{event_text};
+ghost use Rattle.std.specs.Prelude.{◌≡◌, IfOk};
 ghost use Rattle.cdb_text.specs.Pushes.{Pushes};
 ghost use Rattle.cdb_same.specs.Texts.{comparison_text, which_text};
 
 use crate::compare::{Comparison, Which};
-use cdb_base::{Event, NoMemory};
+use cdb_base::NoMemory;
 use cdb_text::push_event;
 use std::alloc::{AllocError, Global};
 
@@ -20,43 +19,6 @@ fn push_which(text: &mut String, which: Which) -> Result<(), AllocError>
     }
 }
 
-/// Adds an event behind some words.
-fn push_behind(text: &mut String, words: &str, event: &Event) -> Result<(), AllocError>
-    ensures { Pushes result text.old text.new (words.now ++ event_text event.now) }
-{
-    text.push_str(words)?;
-    push_event(text, event)
-}
-
-/// Adds an event that stands in this run alone, as a line.
-fn push_alone(text: &mut String, which: Which, event: &Event) -> Result<(), AllocError>
-    ensures { Pushes result text.old text.new
-        (which_text which ++ codes " alone " ++ event_text event.now ++ codes "\n") }
-{
-    push_which(text, which)?;
-    push_behind(text, " alone ", event)?;
-    text.push_str("\n")
-}
-
-/// Adds two events.
-fn push_both(text: &mut String, event: &Event, other: &Event) -> Result<(), AllocError>
-    ensures { Pushes result text.old text.new
-        (event_text event.now ++ codes ", " ++ event_text other.now) }
-{
-    push_event(text, event)?;
-    push_behind(text, ", ", other)
-}
-
-/// Adds two events that stand in the other order, as a line.
-fn push_order(text: &mut String, event: &Event, other: &Event) -> Result<(), AllocError>
-    ensures { Pushes result text.old text.new
-        (codes "other order " ++ event_text event.now ++ codes ", " ++ event_text other.now ++ codes "\n") }
-{
-    text.push_str("other order ")?;
-    push_both(text, event, other)?;
-    text.push_str("\n")
-}
-
 /// Adds how two runs compare.
 fn push_comparison(text: &mut String, found: &Comparison) -> Result<(), AllocError>
     ensures { Pushes result text.old text.new (comparison_text found.now) }
@@ -65,11 +27,17 @@ fn push_comparison(text: &mut String, found: &Comparison) -> Result<(), AllocErr
         Comparison::Same => text.push_str("same run\n"),
         Comparison::Alone(which, event) => {
             text.push_str("different runs\n")?;
-            push_alone(text, *which, event)
+            push_which(text, *which)?;
+            text.push_str(" alone ")?;
+            push_event(text, event)?;
+            text.push_str("\n")
         }
         Comparison::OtherOrder(event, other) => {
-            text.push_str("different runs\n")?;
-            push_order(text, event, other)
+            text.push_str("different runs\nother order ")?;
+            push_event(text, event)?;
+            text.push_str(", ")?;
+            push_event(text, other)?;
+            text.push_str("\n")
         }
     }
 }

@@ -19,12 +19,8 @@ module _ (rules : Rules) (setup : Parts) (goal : Goal) (commands : List Command)
     pub behind : length lines ≡ length commands → (j : ℕ) → i < j → j ≤ length lines → HoldsAfter rules setup goal (without lines j) → ⊥
 
   pub none_tried : (lines : List Command) → lines ≡ commands → HoldsAfter rules setup goal commands → Tried (length commands) lines
-  none_tried lines same holds = record {
-    some = subst (λ (l : List Command). IsSublist l commands) (sym same) (whole commands);
-    holds = subst (HoldsAfter rules setup goal) (sym same) holds;
-    left = rw same (omega arith);
-    behind = λ all j low high. absurd (omega arith);
-  }
+  none_tried lines same holds =
+      rw same (record { some = whole commands; holds = holds; left = omega arith; behind = λ all j low high. absurd (omega arith) })
 
   pub spared : (i : ℕ) (lines : List Command) → 0 < i → Tried i lines → HoldsAfter rules setup goal (without lines i) → Tried (i - 1) (without lines i)
   spared i lines low tried holds =
@@ -69,11 +65,7 @@ module _ (rules : Rules) (setup : Parts) (goal : Goal) (commands : List Command)
     pub fewer : passes + length lines ≤ length commands
 
   pub none_spared : (lines : List Command) → lines ≡ commands → HoldsAfter rules setup goal commands → Spared 0 lines
-  none_spared lines same holds = record {
-    some = subst (λ (l : List Command). IsSublist l commands) (sym same) (whole commands);
-    holds = subst (HoldsAfter rules setup goal) (sym same) holds;
-    fewer = rw same (omega arith);
-  }
+  none_spared lines same holds = rw same (record { some = whole commands; holds = holds; fewer = omega arith })
 
   pub more_spared : (passes : ℕ) (lines fewer : List Command) → Spared passes lines → IsPassed rules setup goal lines fewer → (length fewer ≡ length lines → ⊥)
       → Spared (passes + 1) fewer

@@ -1,5 +1,5 @@
--- What a search finds and writes.
-use Rattle.std.specs.Prelude.{◌≡◌, ℕ, ◌≤◌, List, length, Result, Ok, Err}
+-- What a search finds.
+use Rattle.std.specs.Prelude.{◌≡◌, ℕ, ◌≤◌, List, length}
 use Rattle.cdb_base.specs.declared.event.Event.{Event}
 use Rattle.cdb_goal.specs.Holds.{Holds}
 use Rattle.cdb_goal.specs.declared.goal.Goal.{Goal}
@@ -11,8 +11,7 @@ use Rattle.cdb_setup.specs.Format.{Encodes, longest}
 use Rattle.cdb_setup.specs.Order.{IsFirstFault}
 use Rattle.cdb_setup.specs.Parts.{Parts}
 use Rattle.cdb_slice.specs.Scripts.{PlaysBack, script_text}
-use Rattle.cdb_streams.specs.Faults.{IsSetup, of_output}
-use Rattle.cdb_streams.specs.declared.buffer.OutputFault.{OutputFault}
+use Rattle.cdb_streams.specs.Faults.{IsSetup}
 use Rattle.cdb_streams.specs.declared.fault.PlayFault.TheVariants as play
 
 -- a run of this setup in which the goal holds
@@ -29,15 +28,9 @@ IsScriptTo rules setup goal text =
 abbrev pub IsFound : (Parts → Rules) → List ℕ → Goal → List ℕ → Type 0
 IsFound rules json goal text = (setup : Parts) × Encodes json setup × IsScriptTo (rules setup) setup goal text
 
--- how a search ended that wrote its script so
-abbrev pub after_writing : Result (Unit {0}) OutputFault → Result (Unit {0}) AnswerFault
-after_writing (Ok done) = Ok done
-after_writing (Err why) = Err (Play (of_output why))
-
 -- Why nothing was found. A fault of the setup comes before all others.
 abbrev pub IsFaultOfSearch : List ℕ → ℕ → AnswerFault → Type 0
 IsFaultOfSearch json walks (NotFound its) = IsSetup json × (its ≡ walks)
 IsFaultOfSearch json walks (Play (play.Setup fault)) = IsFirstFault fault json
-IsFaultOfSearch json walks (Play play.Write) = IsSetup json
 IsFaultOfSearch json walks (Play (play.NoMemory refused)) = length json ≤ longest
 IsFaultOfSearch json walks fault = ⊥

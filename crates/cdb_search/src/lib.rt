@@ -1,13 +1,12 @@
 //! Walks at random until a goal holds, and scripts made small as long as it does.
 //!
 //! ```text
-//! search::<AnyRun, _, _>(alloc, setup, Goal::Differ, 1, 1000, &watch, &mut output)?;
-//! shrink::<AnyRun, _, _>(alloc, setup, &mut script, Goal::Differ, &mut output)?;
+//! let script = search::<AnyRun, _>(alloc, setup, Goal::Differ, 1, 1000, &watch)?;
+//! let script = shrink::<AnyRun>(alloc, &run, Goal::Differ)?;
 //! ```
 #![tactic(auto)]
 
 mod finds;
-mod lines;
 mod random;
 mod searches;
 mod shrinks;

@@ -1,11 +1,11 @@
 //! Commands are left out as long as a goal holds.
 
-ghost use Rattle.std.specs.Prelude.{◌↔◌, ◌≤◌, IfOk, IsTrue, length};
+ghost use Rattle.std.specs.Prelude.{◌≡◌, ◌↔◌, ◌<◌, ◌≤◌, ◌+◌, IfOk, IsTrue, length};
 ghost use Rattle.cdb_base.specs.Limits.{MAX_ENTRIES};
+ghost use Rattle.cdb_causal.specs.Rollback.{without};
 ghost use Rattle.cdb_search.specs.Shrunk.{HoldsAfter, IsShrunk};
 ghost use Rattle.cdb_search.specs.Passes.{IsPassed};
 
-use crate::lines::without_one;
 use cdb_base::NoMemory;
 use cdb_commands::Command;
 use cdb_explain::control_after;
@@ -13,6 +13,16 @@ use cdb_goal::{Goal, holds};
 use cdb_rules::Runs;
 use cdb_setup::Setup;
 use std::alloc::Global;
+
+/// The commands without the one at a position, from 0.
+fn without_one(alloc: Global, commands: &[Command], i: usize) -> Result<Vec<Command>, NoMemory>
+    requires { i < length commands.now }
+    ensures { IfOk result (λ fewer. fewer.items ≡ without commands.now (i + 1)) }
+{
+    let mut fewer = Vec::from_slice(alloc, &commands[..i])?;
+    fewer.extend_from_slice(&commands[i + 1..])?;
+    Ok(fewer)
+}
 
 /// Whether the goal holds of the run that the commands leave.
 pub(crate) fn holds_after<T: Runs>(

@@ -234,37 +234,26 @@ impl Walker {
 
     /// The copy of the `m`-th message of process `p` for process `to` waits.
     fn add_copy(&mut self, p: Proc, m: u16, to: Proc) -> Result<(), NoMemory> {
-        let near = self.half_of(p) == self.half_of(to);
-        let copies = if near {
-            self.near.push(CopyName {
-                msg: MsgName { s: p, m },
-                to,
-            })
+        let msg = MsgName { s: p, m };
+        let added = if self.half_of(p) == self.half_of(to) {
+            self.near.push(CopyName { msg, to })
         } else {
-            self.far.push(CopyName {
-                msg: MsgName { s: p, m },
-                to,
-            })
+            self.far.push(CopyName { msg, to })
         };
-        Ok(copies?)
+        Ok(added?)
     }
 
     /// Sees an event: the copies of a message that is sent wait.
     pub(crate) fn see(&mut self, event: &Event) -> Result<(), NoMemory> {
-        match *event {
-            Event::Step {
-                p,
-                kind: Kind::Send(m),
-                ..
-            } => self.add_copies(p, m),
-            _ => Ok(()),
-        }
-    }
-
-    /// The copies of the `m`-th message of process `p` wait.
-    fn add_copies(&mut self, p: Proc, m: u16) -> Result<(), NoMemory> {
-        for number in 1..=self.processes {
-            self.add_copy(p, m, Proc::new(number))?;
+        if let Event::Step {
+            p,
+            kind: Kind::Send(m),
+            ..
+        } = *event
+        {
+            for number in 1..=self.processes {
+                self.add_copy(p, m, Proc::new(number))?;
+            }
         }
         Ok(())
     }

@@ -28,7 +28,7 @@ use Rattle.cdb_session.specs.Repeats.{repeat_parts}
 use Rattle.cdb_session.specs.Requests.{most_seats, help_line, seat_line, watch_line}
 use Rattle.cdb_session.specs.Typed.{is_blank, is_comment, is_mark, is_name, is_word, parts_of, due, only, full, up_to_comment, with_piece, words_meant}
 use Rattle.cdb_session.specs.Typed.{line_meant}
-use Rattle.cdb_session.proofs.Names.{no_name}
+use Rattle.cdb_session.proofs.TypedWords.{no_name}
 
 -- ---- words of which each byte is a letter or a digit
 

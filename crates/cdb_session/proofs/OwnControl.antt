@@ -36,7 +36,6 @@ goes_on : (rules : Parts → Rules) (c : Journaled) (e : Entry) (rooms : List �
     GoesOn (whole_part rules c) (whole_part rules more)
 goes_on rules c e rooms =
     record {
-      before = refl;
       longer = omega (arith, length-append c.journal (e ∷ []));
       calls_in = λ first few. refl;
       left_by = λ first few. ap (run_left rules c.setup c.seats) (take-append-le first c.journal (e ∷ []) few);

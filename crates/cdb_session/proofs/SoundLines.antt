@@ -17,21 +17,17 @@ use Rattle.cdb_text.specs.Grammar.{IsLineOf, words_of}
 use Rattle.cdb_text.specs.Lines.{after_process, after_step, after_break, after_show, after_verb, whole_line}
 use Rattle.cdb_text.specs.Numbers.{number_of}
 use Rattle.cdb_text.specs.Readers.{read_by, register_named}
-use Rattle.cdb_text.specs.declared.fault.LineFault.{LineFault}
 use Rattle.cdb_session.specs.declared.due.Due.{Due}
-use Rattle.cdb_session.specs.declared.due.Due.TheVariants as due
-use Rattle.cdb_session.specs.declared.inquiry.Inquiry.{Inquiry}
 use Rattle.cdb_session.specs.declared.topic.Topic.{Topic}
-use Rattle.cdb_session.specs.declared.topic.Topic.TheVariants as topic
-use Rattle.cdb_session.specs.Due.{amiss_in, with_process, behind, behind_act, behind_first, dues_of, first_amiss}
-use Rattle.cdb_session.specs.Due.{is_number, may_stand, nothing, registers}
+use Rattle.cdb_session.specs.Due.{amiss_in, with_process, behind, behind_act, behind_first, dues_of, first_amiss, is_number, may_stand, nothing, registers}
 use Rattle.cdb_session.specs.InquiryWords.{step_in, any_step_in, drawing_in, inquiry_in, repeat_in}
 use Rattle.cdb_session.specs.Laws.{SoundLinesAreTaken}
 use Rattle.cdb_session.specs.Requests.{IsOwn, most_seats}
 use Rattle.cdb_session.specs.Topics.{topic_of, topic_word, topics}
 use Rattle.cdb_session.specs.Typed.{acts, first_words}
-use Rattle.cdb_session.proofs.HelpLines.{its_topic}
-use Rattle.cdb_session.proofs.InquiryLines.{inquiry_says, repeat_says}
+use Rattle.cdb_session.proofs.OneRequest.{its_topic, inquiry_says, repeat_says}
+use Rattle.cdb_session.specs.declared.due.Due.TheVariants as due
+use Rattle.cdb_session.specs.declared.topic.Topic.TheVariants as topic
 
 -- ---- nothing is amiss from some place on
 
@@ -58,28 +54,28 @@ IsTaken words = (line : List ℕ) → words_of line ≡ words → IsOwn line ⊎
 abbrev IsRead : List (List ℕ) → Type 0
 IsRead words = is_ok (read_by whole_line words) ≡ true
 
+ok_of : {A E : Type 0} (r : Result A E) → is_ok r ≡ true → (a : A) × (r ≡ Ok a)
+ok_of (Ok a) is = (a, refl)
+ok_of (Err e) is = absurd cc
+
 read_taken : (words : List (List ℕ)) → IsRead words → IsTaken words
-read_taken words is line are = found (read_by whole_line words) refl is
-  where
-    found : (read : Result Command LineFault) → read_by whole_line words ≡ read → is_ok read ≡ true → IsOwn line ⊎ ((command : Command) × IsLineOf command line)
-    found (Ok command) reads is = inr (command, rw are ((one_command words command).0 reads))
-    found (Err fault) reads is = absurd cc
+read_taken words is line are =
+    let command = ok_of (read_by whole_line words) is in inr (command.0, rw are ((one_command words command.0).0 command.1))
 
 -- or as what is asked of the run
+some_of : {A : Type 0} (o : Option A) → is_some o ≡ true → (a : A) × (o ≡ Some a)
+some_of (Some a) is = (a, refl)
+some_of None is = absurd cc
+
 inquiry_taken : (words : List (List ℕ)) → is_some (inquiry_in words) ≡ true → IsTaken words
-inquiry_taken words is line are = found (inquiry_in words) refl is
-  where
-    found : (read : Option Inquiry) → inquiry_in words ≡ read → is_some read ≡ true → IsOwn line ⊎ ((command : Command) × IsLineOf command line)
-    found (Some inquiry) reads is = inl (inr (inr (inr (inl (inquiry, rw are (inquiry_says words inquiry reads))))))
-    found None reads is = absurd cc
+inquiry_taken words is line are =
+    let inquiry = some_of (inquiry_in words) is in inl (inr (inr (inr (inl (inquiry.0, rw are (inquiry_says words inquiry.0 inquiry.1))))))
 
 -- or as a command that is repeated
 repeat_taken : (words : List (List ℕ)) → is_some (repeat_in words) ≡ true → IsTaken words
-repeat_taken words is line are = found (repeat_in words) refl is
-  where
-    found : (read : Option (ℕ × ℕ)) → repeat_in words ≡ read → is_some read ≡ true → IsOwn line ⊎ ((command : Command) × IsLineOf command line)
-    found (Some (p, times)) reads is = inl (inr (inr (inr (inr (inl (p, times, repeat_says line p times (rw are reads)))))))
-    found None reads is = absurd cc
+repeat_taken words is line are =
+    let ((p, times), reads) = some_of (repeat_in words) is in
+    inl (inr (inr (inr (inr (inl (p, times, repeat_says line p times (rw are reads)))))))
 
 own_taken : (words : List (List ℕ)) → IsOwn (join_with_byte 32 words) → IsTaken words
 own_taken words own line are = inl (rw (sym (join_with_byte-slice_split 32 line) ∙ ap (join_with_byte 32) are) own)
@@ -97,11 +93,7 @@ one_of P f (x ∷ xs) all word is =
     ]
 
 number_read : (word : List ℕ) → (is_number word || false) ≡ true → (n : ℕ) × (number_of word ≡ Some n)
-number_read word is = found (number_of word) refl (rw or-false at is)
-  where
-    found : (read : Option ℕ) → number_of word ≡ read → is_some read ≡ true → (n : ℕ) × (number_of word ≡ Some n)
-    found (Some n) reads is = (n, reads)
-    found None reads is = absurd cc
+number_read word is = some_of (number_of word) (rw or-false at is)
 
 -- behind `step P`
 abbrev IsActRead : ℕ → List ℕ → Type 0
@@ -191,7 +183,7 @@ help_taken (word ∷ words) is =
     rw (over words here.1, t.2) (own_taken (codes "help" ∷ topic_word t.0 ∷ []) (inl (Some t.0, refl)))
 
 by_topic : (first : Topic) (words : List (List ℕ)) → IsSound (behind first words) words → IsTaken (topic_word first ∷ words)
-unfolding whole_line after_verb after_show inquiry_in drawing_in any_step_in step_in
+unfolding whole_line after_verb after_show inquiry_in drawing_in any_step_in step_in topic_of
 by_topic topic.Step words is = read_taken _ (step_read words is)
 by_topic topic.Auto words is = auto_taken words is
 by_topic topic.Lose words is = read_taken (codes "lose" ∷ words) (grind (arith, common_steps, gets))

@@ -23,7 +23,6 @@ whole_part rules c =
     record {
       calls = c.journal;
       replies = all_replies_from (rules c.setup) (first_control_state c.setup c.seats) c.journal;
-      before = 0;
       entries = length c.journal;
       calls_in = λ first. first;
       left_by = λ first. run_left rules c.setup c.seats (take first c.journal);

@@ -1,17 +1,21 @@
 -- Of which run a question is answered, and what was done of all lines.
-use Rattle.std.specs.Prelude.{ℕ, ◌+◌, List, [], ◌∷◌, drop, length, Option, None, Result, Ok, Err, Vec}
+use Rattle.std.specs.Prelude.{◌≡◌, ℕ, ◌+◌, List, [], ◌∷◌, ◌++◌, length, Result, Ok, Err, Vec}
 use Rattle.std.specs.Global.{Global}
+use Rattle.std.specs.List.{flat_map}
 use Rattle.cdb_control.specs.Journal.{replay}
 use Rattle.cdb_control.specs.declared.control.Entry.{Entry}
 use Rattle.cdb_rules.specs.RunView.{RunView}
 use Rattle.cdb_rules.specs.Rules.{Rules}
 use Rattle.cdb_setup.specs.Parts.{Parts}
-use Rattle.cdb_session.specs.Exchanges.{Answer, Exchange, given_at}
-use Rattle.cdb_session.specs.News.{HasNewsAfter, watched_next}
-use Rattle.cdb_session.specs.Parts.{HasCommands, HaveJust, IsGiven}
-use Rattle.cdb_session.specs.Styles.{StyleView, Part}
+use Rattle.cdb_session.specs.Exchanges.{Answer, Exchange, replies_at}
+use Rattle.cdb_session.specs.News.{HasNewsAfter}
+use Rattle.cdb_session.specs.Parts.{HaveJust, entries_at}
+use Rattle.cdb_session.specs.Repeats.{AreAllReplies}
+use Rattle.cdb_session.specs.Replies.{first_place, next_place}
+use Rattle.cdb_session.specs.Styles.{StyleView, Part, IsFull}
 use Rattle.cdb_session.specs.declared.inquiry.Inquiry.{Inquiry}
-use Rattle.cdb_session.specs.declared.request.Request.TheVariants.{Ask}
+use Rattle.cdb_session.specs.declared.request.Request.TheVariants.{Call, Ask}
+use Rattle.cdb_session.specs.declared.session.Place.{Place}
 
 -- an answer, by its bytes
 abbrev pub answer_seen : Result (Vec ℕ Global) (Vec ℕ Global) → Answer
@@ -23,36 +27,48 @@ abbrev pub run_left : (Parts → Rules) → Parts → ℕ → List Entry → Run
 run_left rules setup seats journal =
     record { setup = setup; history = (replay (rules setup) setup seats journal).history }
 
--- of each of these lines, before which so many commands were given and somebody watched from there on, this holds
-abbrev pub EachLine : (ℕ → Option ℕ → Exchange → Type 0) → ℕ → Option ℕ → List Exchange → Type 0
-EachLine IsSo count watched [] = Unit {0}
-EachLine IsSo count watched (exchange ∷ exchanges) =
-    IsSo count watched exchange × EachLine IsSo (count + given_at exchange) (watched_next watched exchange) exchanges
+module _ (style : StyleView) where
+  -- the entries of these lines, each of the seat that was chosen last
+  abbrev pub entries_from : Place → List Exchange → List Entry
+  entries_from at [] = []
+  entries_from at (exchange ∷ exchanges) =
+      entries_at at.seat exchange ++ entries_from (next_place style at exchange) exchanges
+
+  -- of each of these lines, before which so many commands were given, this holds
+  abbrev pub EachLine : (ℕ → Place → Exchange → Type 0) → ℕ → Place → List Exchange → Type 0
+  EachLine IsSo count at [] = Unit {0}
+  EachLine IsSo count at (exchange ∷ exchanges) =
+      IsSo count at exchange
+      × EachLine IsSo (count + length (entries_at at.seat exchange)) (next_place style at exchange) exchanges
 
 -- of a run, what is asked of it and an answer, whether it is that answer
 module _ (Answers : RunView → Inquiry → Answer → Type 0) where
-  -- this answers what is asked of the run that the first entries leave, with just these commands
-  abbrev pub AnswersAfter : Part → ℕ → Inquiry → Answer → Type 0
-  AnswersAfter part count inquiry answer =
-      (first : ℕ) × HaveJust part count first × Answers (part.left_by first) inquiry answer
+  -- this answers what is asked of the run that the first entries leave, no less than some, with just these commands
+  abbrev pub AnswersAfter : ℕ → Part → ℕ → Inquiry → Answer → Type 0
+  AnswersAfter least part count inquiry answer =
+      (first : ℕ) × HaveJust least part count first × Answers (part.left_by first) inquiry answer
 
-  -- what a line asks of the run is answered so
-  abbrev pub IsAnsweredAfter : Part → ℕ → Exchange → Type 0
-  IsAnsweredAfter part count (Ask inquiry, effect) = AnswersAfter part count inquiry effect.answer
-  IsAnsweredAfter part count other = Unit {0}
+  -- What a line asks of the run is answered so. Its command got all replies; where there is no more room for it in the
+  -- journal, that has no command of the session behind it.
+  abbrev pub IsDoneAfter : ℕ → Part → ℕ → Exchange → Type 0
+  IsDoneAfter least part count (Call command times, effect) =
+      AreAllReplies (IsFull part × (length part.calls ≡ count + length effect.got)) times effect.got
+  IsDoneAfter least part count (Ask inquiry, effect) = AnswersAfter least part count inquiry effect.answer
+  IsDoneAfter least part count other = Unit {0}
 
-  -- and its command was given as often as it is by the replies behind those to the commands before it
-  pub record IsDoneAfter (part : Part) (count : ℕ) (watched : Option ℕ) (exchange : Exchange) : Type 0 where
-    pub answered : IsAnsweredAfter part count exchange
-    pub given : IsGiven exchange (drop count part.replies)
-    pub news : HasNewsAfter part count watched exchange
+  -- and whoever watches is shown the news
+  abbrev pub IsShownAfter : ℕ → Part → ℕ → Place → Exchange → Type 0
+  IsShownAfter least part count at exchange =
+      IsDoneAfter least part count exchange × HasNewsAfter least part count at.watched exchange
 
-  -- the journal has the commands of these lines, each as often as it is to be given, the questions are answered so, and
-  -- whoever watches is shown the news
-  abbrev pub HasExchanges : StyleView → Part → List Exchange → Type 0
-  HasExchanges style part exchanges = HasCommands style part exchanges × EachLine (IsDoneAfter part) 0 None exchanges
+  -- Behind what was there when the session began the journal has the commands of these lines, in order and each as
+  -- often as it got a reply, and no other of the session; they got those replies; and each line was done.
+  pub record HasExchanges (style : StyleView) (begun part : Part) (exchanges : List Exchange) : Type 0 where
+    pub calls : part.calls ≡ begun.calls ++ entries_from style (first_place style) exchanges
+    pub replies : part.replies ≡ begun.replies ++ flat_map replies_at exchanges
+    pub each : EachLine style (IsShownAfter begun.entries part) (length begun.calls) (first_place style) exchanges
 
   -- this answers what is asked of the run that the journal leaves as it stands
   abbrev pub AnswersNow : Part → Inquiry → Answer → Type 0
   AnswersNow part inquiry answer =
-      HaveJust part (length part.calls) part.entries × Answers (part.left_by part.entries) inquiry answer
+      (part.calls_in part.entries ≡ length part.calls) × Answers (part.left_by part.entries) inquiry answer

@@ -1,25 +1,23 @@
 -- A session whose lines choose one of nine seats, on a setup in JSON, which goes on from a journal.
-use Rattle.std.specs.Prelude.{◌≡◌, ◌⊎◌, ℕ, ◌≤◌, List, [], ◌++◌, length, Result, Ok, Err}
-use Rattle.cdb_base.specs.Limits.{MAX_SEATS}
-use Rattle.cdb_control.specs.Journal.{Journaled}
-use Rattle.cdb_control.specs.declared.control.Entry.{Entry}
-use Rattle.cdb_journal.specs.OpenedFrom.{IsFaultOfOpening, IsJournalOf, IsOpenedFrom}
+use Rattle.std.specs.Prelude.{◌≡◌, ◌⊎◌, ℕ, ◌≤◌, List, [], length, Result, Ok, Err}
+use Rattle.cdb_base.specs.Limits.{MAX_ENTRIES, MAX_SEATS}
+use Rattle.cdb_control.specs.Journal.{Begins, Journaled}
+use Rattle.cdb_journal.specs.OpenedFrom.{IsFaultOfOpening, IsOpenedFrom}
 use Rattle.cdb_rules.specs.RunView.{RunView}
 use Rattle.cdb_rules.specs.Rules.{Rules}
 use Rattle.cdb_setup.specs.Format.{Encodes, longest}
 use Rattle.cdb_setup.specs.Order.{IsFirstFault}
 use Rattle.cdb_setup.specs.Parts.{Parts}
 use Rattle.cdb_streams.specs.Faults.{IsSetup}
-use Rattle.cdb_streams.specs.Lines.{lines_of}
 use Rattle.cdb_streams.specs.declared.fault.PlayFault.{PlayFault}
 use Rattle.cdb_streams.specs.declared.fault.PlayFault.TheVariants as fault
 use Rattle.cdb_streams.specs.declared.script.ScriptFault.TheVariants as script
+use Rattle.cdb_session.specs.Alone.{nine, whole_part}
 use Rattle.cdb_session.specs.Greetings.{greeting_at, greeting_text}
 use Rattle.cdb_session.specs.Exchanges.{Answer}
 use Rattle.cdb_session.specs.declared.inquiry.Inquiry.{Inquiry}
-use Rattle.cdb_session.specs.Moves.{Known, Move, read_in, written_in, Makes}
-use Rattle.cdb_session.specs.Sessions.{IsSessionBy}
-use Rattle.cdb_session.specs.Table.{Session, begun, IsDialogue}
+use Rattle.cdb_session.specs.Moves.{Known, Move, Makes}
+use Rattle.cdb_session.specs.Served.{IsSession}
 
 -- the control is of the setup that the text of JSON encodes, it goes on from this journal, and this is the setup in
 -- words
@@ -38,26 +36,21 @@ IsFaultOfBeginning json from seats (fault.ScriptTooLong number) =
 IsFaultOfBeginning json from seats (fault.NoMemory refused) = length json ≤ longest
 IsFaultOfBeginning json from seats other = ⊥
 
-module _ (Answers : RunView → Inquiry → Answer → Type 0) (greeting prompt : List ℕ) (start : Session) where
-  -- the first of the lines have their responses in full, and the others not at all
-  pub record IsCutShort (moves : List Move) : Type 0 where
-    pub lines : List (List ℕ)
-    pub others : List (List ℕ)
-    pub begins : lines_of (read_in moves) ≡ lines ++ others
-    pub responded : IsDialogue Answers greeting prompt start lines (written_in moves)
-
-  -- a session that has made these moves, and returned this
-  abbrev pub IsSession : {A : Type 0} → Result A PlayFault → List Move → Type 0
-  IsSession returned moves =
-      IsSessionBy (IsDialogue Answers greeting prompt start)
-      (IsDialogue Answers greeting prompt start) IsCutShort returned moves
-
 module _ (rules : Parts → Rules) (Answers : RunView → Inquiry → Answer → Type 0) (prompt json from : List ℕ) where
-  -- such a session on the setup that the text of JSON encodes, which goes on from the journal
-  abbrev pub IsSessionOn : {A : Type 0} → Result A PlayFault → List Move → Type 0
-  IsSessionOn returned moves =
-      (setup : Parts) × (entries : List Entry) × Encodes json setup × IsJournalOf MAX_SEATS entries from
-      × IsSession Answers (greeting_at prompt (greeting_text setup)) prompt (begun rules setup entries) returned moves
+  -- Such a session on the setup that the text of JSON encodes, from a control that goes on from the journal to one at
+  -- its end, whose journal explains all responses.
+  pub record IsSessionOn {A : Type 0} (returned : Result A PlayFault) (moves : List Move) : Type 0 where
+    pub setup : Parts
+    pub encodes : Encodes json setup
+    pub begun : Journaled
+    pub goes_on : IsOpenedFrom setup MAX_SEATS from begun
+    pub control : Journaled
+    pub setup_is : control.setup ≡ setup
+    pub seats_are : control.seats ≡ MAX_SEATS
+    pub begins : Begins begun.journal control.journal
+    pub few : length control.journal ≤ MAX_ENTRIES
+    pub session : IsSession Answers (nine (greeting_at prompt (greeting_text setup)) prompt)
+        (whole_part rules begun) (whole_part rules control) returned moves
 
   -- there was no session, and nothing was read or written
   abbrev pub IsNone : {A : Type 0} → Result A PlayFault → List Move → Type 0

@@ -1,12 +1,13 @@
 -- The responses of a session, along its lines.
-use Rattle.std.specs.Prelude.{ℕ, ◌+◌, ◌==◌, Bool, true, false, List, [], ◌∷◌, ◌++◌, codes, map}
+use Rattle.std.specs.Prelude.{ℕ, slice_index_or, Bool, true, false, List, [], ◌∷◌, ◌++◌, codes}
 use Rattle.std.specs.Prelude.{decimal, drop, if◌then◌else◌, Option, None, Some, Ok, Err}
-use Rattle.std.specs.List.{before_first, flat_map}
+use Rattle.std.specs.List.{flat_map}
 use Rattle.std.specs.Str.{bytes_eq}
 use Rattle.std.specs.Str.Lines.{lines}
 use Rattle.cdb_control.specs.FaultTexts.{call_fault_text}
 use Rattle.cdb_control.specs.declared.control.CallFault.TheVariants.{JournalFull}
 use Rattle.cdb_streams.specs.FaultTexts.{as_line}
+use Rattle.cdb_text.specs.Grammar.{words_of}
 use Rattle.cdb_text.specs.LineFaults.{line_fault_text}
 use Rattle.cdb_text.specs.declared.fault.LineFault.{LineFault}
 use Rattle.cdb_text.specs.declared.fault.LineFault.TheVariants.{Empty, Word}
@@ -14,7 +15,7 @@ use Rattle.cdb_session.specs.Due.{Amiss, amiss_in, amiss_text, stands}
 use Rattle.cdb_session.specs.Exchanges.{Answer, Exchange}
 use Rattle.cdb_session.specs.FaultyLines.{FaultyLineView}
 use Rattle.cdb_session.specs.declared.due.Due.TheVariants.{Command}
-use Rattle.cdb_session.specs.Moves.{Output, Saving, file, says}
+use Rattle.cdb_session.specs.Moves.{Saving}
 use Rattle.cdb_session.specs.Topics.{topic_word}
 use Rattle.cdb_session.specs.declared.inquiry.Inquiry.{Inquiry}
 use Rattle.cdb_session.specs.declared.inquiry.Inquiry.TheVariants.{Draw}
@@ -84,7 +85,7 @@ help_text seats = COMMANDS.now ++ (BESIDES.now ++ (seats_help seats ++ OTHERS.no
 
 -- a line of it is about its first word, which stands behind two spaces
 abbrev pub first_word : List ℕ → List ℕ
-first_word line = before_first (λ byte. byte == 32) (drop 2 line)
+first_word line = slice_index_or (words_of (drop 2 line)) 0 []
 
 abbrev pub line_about : Topic → List ℕ → List ℕ
 line_about topic line = if bytes_eq (first_word line) (topic_word topic) then as_line line else []
@@ -103,18 +104,18 @@ abbrev pub help_response : ℕ → Bool → Option Topic → List ℕ
 help_response line seats None = help_text seats
 help_response line seats (Some topic) = or_word_fault line topic (lines_about topic (help_text seats))
 
--- The response to a line that asks for no command and nothing of the run, after this many lines. Where no line chooses
--- a seat, one that does has a wrong word.
+-- The response to a line of this number that asks for no command and nothing of the run. Where no line chooses a seat,
+-- one that does has a wrong word.
 abbrev pub own_response : Bool → ℕ → Request → List ℕ
-own_response chooses lines (Watch begins) = watch_text begins
-own_response chooses lines (Seat seat) =
+own_response chooses line (Watch begins) = watch_text begins
+own_response chooses line (Seat seat) =
     if chooses
     then (seat_line seat ++ codes "\n")
-    else faulty_line_text (lines + 1) Word (stands Command (topic_word topic.Seat))
-own_response chooses lines (Help about) = help_response (lines + 1) chooses about
-own_response chooses lines (Fault faulty) = fault_response (lines + 1) chooses faulty
-own_response chooses lines TooLong = long_line_text (lines + 1)
-own_response chooses lines other = []
+    else faulty_line_text line Word (stands Command (topic_word topic.Seat))
+own_response chooses line (Help about) = help_response line chooses about
+own_response chooses line (Fault faulty) = fault_response line chooses faulty
+own_response chooses line TooLong = long_line_text line
+own_response chooses line other = []
 
 -- ---- all lines
 
@@ -127,20 +128,3 @@ saved_at other = []
 abbrev pub prompt_after : List ℕ → Request → List ℕ
 prompt_after prompt Quit = []
 prompt_after prompt request = prompt
-
--- a session of which this is the response at a line, and this the session after it
-module _ {S : Type 0} (respond : S → Exchange → List ℕ) (next : S → Exchange → S) (prompt : List ℕ) where
-  -- what is saved comes before the response
-  abbrev pub responded_by : S → Exchange → List Output
-  responded_by s exchange = map file (saved_at exchange) ++ says (respond s exchange)
-
-  abbrev pub shown_by : S → Exchange → List Output
-  shown_by s exchange = responded_by s exchange ++ says (prompt_after prompt exchange.0)
-
-  abbrev pub shown_from_by : S → List Exchange → List Output
-  shown_from_by s [] = []
-  shown_from_by s (exchange ∷ exchanges) = shown_by s exchange ++ shown_from_by (next s exchange) exchanges
-
-  -- all that is put out in a session from this start, at these lines: the greeting stands before the first prompt
-  abbrev pub dialogue_by : List ℕ → S → List Exchange → List Output
-  dialogue_by greeting start exchanges = says (greeting ++ prompt) ++ shown_from_by start exchanges

@@ -1,5 +1,6 @@
 -- What a line asks for, with what came of it.
-use Rattle.std.specs.Prelude.{ℕ, ◌+◌, Bool, List, [], ◌∷◌, Result}
+use Rattle.std.specs.Prelude.{ℕ, Bool, List, [], Result}
+use Rattle.cdb_commands.specs.ReplyView.{ReplyView}
 use Rattle.cdb_session.specs.declared.request.Request.{Request}
 use Rattle.cdb_session.specs.declared.request.Request.TheVariants.{Call}
 
@@ -8,24 +9,19 @@ abbrev pub Answer : Type 0
 Answer = Result (List ℕ) (List ℕ)
 
 -- What came of a line: how many entries of the journal were seen at it, if somebody watches, and the news of others;
--- how often its command was given; and where it asks something of the run, the answer to it, and whether that was
--- saved, where it was to be.
+-- the replies that its command got, one each time that it was given; and where it asks something of the run, the
+-- answer to it, and whether that was saved, where it was to be.
 pub record Effect : Type 0 where
   pub seen : ℕ
   pub news : List ℕ
-  pub given : ℕ
+  pub got : List ReplyView
   pub answer : Answer
   pub saved : Bool
 
 abbrev pub Exchange : Type 0
 Exchange = Request × Effect
 
--- how many commands were given at a line
-abbrev pub given_at : Exchange → ℕ
-given_at (Call command times, effect) = effect.given
-given_at other = 0
-
--- and at all of these
-abbrev pub commands_among : List Exchange → ℕ
-commands_among [] = 0
-commands_among (exchange ∷ exchanges) = given_at exchange + commands_among exchanges
+-- the replies to the command of a line
+abbrev pub replies_at : Exchange → List ReplyView
+replies_at (Call command times, effect) = effect.got
+replies_at other = []

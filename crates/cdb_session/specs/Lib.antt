@@ -13,17 +13,15 @@ pub mod Dialogues
 pub mod Greetings
 pub mod Parts
 pub mod News
-pub mod Answers
 pub mod Replies
-pub mod Table
+pub mod Answers
 pub mod Sessions
-pub mod Since
+pub mod Alone
 pub mod Served
 pub mod Debugs
 pub mod Laws
 -- ---- what the code keeps for itself
 pub mod TypedWords
 pub mod InquiryWords
-pub mod Alone
 pub mod Lines
 pub mod Unfinished

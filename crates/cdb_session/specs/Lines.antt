@@ -1,72 +1,68 @@
 -- What one line does.
-use Rattle.std.specs.Prelude.{◌≡◌, ◌⊎◌, ℕ, ◌<◌, ◌≤◌, Bool, true, List, [], ◌∷◌, ◌++◌, length, if◌then◌else◌, replicate}
+use Rattle.std.specs.Prelude.{◌≡◌, ◌⊎◌, ℕ, ◌≤◌, Bool, true, List, [], ◌∷◌, ◌++◌, length, map, if◌then◌else◌}
 use Rattle.std.specs.Prelude.{Option, None, Some, Result, Ok, Err, IfOk}
 use Rattle.cdb_commands.specs.ReplyView.{ReplyView, is_refused}
 use Rattle.cdb_control.specs.declared.control.Entry.{Entry}
 use Rattle.cdb_rules.specs.RunView.{RunView}
-use Rattle.cdb_session.specs.Answers.{AnswersNow}
-use Rattle.cdb_session.specs.Exchanges.{Answer, Effect, Exchange, given_at}
+use Rattle.cdb_text.specs.Texts.{text_of}
+use Rattle.cdb_session.specs.Answers.{IsDoneAfter}
+use Rattle.cdb_session.specs.Dialogues.{full_text}
+use Rattle.cdb_session.specs.Exchanges.{Answer, Effect, Exchange, replies_at}
 use Rattle.cdb_session.specs.declared.inquiry.Inquiry.{Inquiry}
 use Rattle.cdb_session.specs.declared.request.Request.{Request}
-use Rattle.cdb_session.specs.declared.request.Request.TheVariants.{Call, Ask}
+use Rattle.cdb_session.specs.declared.request.Request.TheVariants.{Call}
 use Rattle.cdb_session.specs.Styles.{StyleView, Part, IsFull, AreCalled, MakesNone}
 use Rattle.cdb_session.specs.Moves.{Output, file, says}
-use Rattle.cdb_session.specs.News.{HasNews, watched_next}
-use Rattle.cdb_session.specs.Parts.{IsGiven, entries_of}
-use Rattle.cdb_session.specs.Repeats.{times_given}
-use Rattle.cdb_session.specs.Replies.{Along, replies_text, responded, shown}
+use Rattle.cdb_session.specs.News.{HasNews}
+use Rattle.cdb_session.specs.Parts.{entries_of}
+use Rattle.cdb_session.specs.Repeats.{AreAllReplies}
+use Rattle.cdb_session.specs.Replies.{next_place, responded, shown}
+use Rattle.cdb_session.specs.declared.session.Place.{Place}
 use Rattle.cdb_session.specs.declared.session.Session.{Session}
 use Rattle.cdb_session.specs.declared.shown.NewFile.{NewFile}
 use Rattle.cdb_session.specs.declared.shown.Shown.{Shown}
 
--- A session between two lines: what the journal has of it, its seat, how many lines there were, and from which entry on
--- those of others are still to be shown, if somebody watches.
+-- a session between two lines: what the journal has of it, and where it is
 pub record SessionView : Type 0 where
   pub part : Part
-  pub seat : ℕ
-  pub lines : ℕ
-  pub watched : Option ℕ
+  pub place : Place
 
 -- what is seen of a session, by what is seen of its caller
 abbrev pub seen_by : {C : Type 0} → (C → Part) → Session C → SessionView
-seen_by part s = record { part = part s.caller; seat = s.seat; lines = s.lines; watched = s.watched }
-
--- a session that got these replies at its next line
-abbrev pub at_line : SessionView → List ReplyView → Along
-at_line session got =
-    record { seat = session.seat; replies = got; lines = session.lines; watched = session.watched }
+seen_by part s = record { part = part s.caller; place = s.place }
 
 -- the session has given the command that the line asks for, if it asks for one, and got each time one of these replies
 abbrev pub HasGot : ℕ → Part → Request → List ReplyView → Part → Type 0
-HasGot seat old request got new = AreCalled old (entries_of seat request (length got)) got new
+HasGot seat old request got new = AreCalled old (entries_of seat request got) got new
 
 -- the news were looked at before all else, and after all commands so far
-abbrev pub HasLooked : SessionView → Exchange → SessionView → Type 0
+abbrev pub HasLooked : SessionView → Exchange → Part → Type 0
 HasLooked old exchange new =
-    HasNews new.part (length old.part.calls) old.part.entries old.watched exchange.0 exchange.1.seen exchange.1.news
+    HasNews new (length old.part.calls) old.part.entries old.place.watched exchange.0 exchange.1.seen exchange.1.news
 
--- what was given of it was to be given
-abbrev pub IsToBeGiven : Request → List ReplyView → Type 0
-IsToBeGiven (Call command times) got = (length got ≤ times) × (times_given (length got) got ≡ length got)
-IsToBeGiven other got = got ≡ []
-
--- what the line asks for was begun
-pub record HasBegun (seat : ℕ) (old : Part) (request : Request) (new : Part) : Type 0 where
-  pub got : List ReplyView
-  pub calls : HasGot seat old request got new
-  pub due : IsToBeGiven request got
+-- memory is out, and nothing was done of what the line asks for; or its command got these replies, and was to be given
+-- more often
+abbrev pub HasBegun : ℕ → Part → Request → Part → Type 0
+HasBegun seat old (Call command times) new =
+    (got : List ReplyView) × (length got ≤ times) × AreAllReplies ⊥ (length got) got
+    × HasGot seat old (Call command times) got new
+HasBegun seat old other new = MakesNone old new
 
 -- the reply to a command that was given once is the last: it is a refusal, or there is none since the journal is full
 abbrev pub is_last : List ReplyView → Bool
 is_last [] = true
 is_last (reply ∷ replies) = is_refused reply
 
+abbrev pub text_once : List ReplyView → List ℕ
+text_once [] = full_text
+text_once (reply ∷ replies) = text_of reply
+
 -- The command was given once more, and got a reply, or none where memory is out or the journal is full. Where this is
 -- true it was the last time.
 abbrev pub GivesOnce : {E : Type 0} → Result Bool E → Part → Entry → List ℕ → List ℕ → Part → Type 0
 GivesOnce result old one before text new =
-    (got : List ReplyView) × AreCalled old (replicate (length got) one) got new × (length got ≤ 1)
-    × IfOk result (λ last. (got ≡ [] → IsFull new) × (last ≡ is_last got) × (text ≡ before ++ replies_text 1 got))
+    (got : List ReplyView) × AreCalled old (map (λ reply. one) got) got new × (length got ≤ 1)
+    × IfOk result (λ last. (got ≡ [] → IsFull new) × (last ≡ is_last got) × (text ≡ before ++ text_once got))
 
 -- what is put out, where its file was written and where it could not be
 abbrev pub outputs_with : Option NewFile → List ℕ → List ℕ → Bool → List Output
@@ -78,43 +74,41 @@ outputs_with (Some its) text failed saved =
 abbrev pub outputs_of : List ℕ → Shown → Bool → List Output
 outputs_of news shown saved = outputs_with shown.file (news ++ shown.text.items) (news ++ shown.failed.items) saved
 
+-- the news stand before what is shown, and this behind it
+pub record IsAround (its all : Shown) (news behind : List ℕ) : Type 0 where
+  pub file : all.file ≡ its.file
+  pub text : all.text.items ≡ (news ++ its.text.items) ++ behind
+  pub failed : all.failed.items ≡ (news ++ its.failed.items) ++ behind
+
 -- a text is shown, and nothing is saved
 abbrev pub IsText : Shown → List ℕ → Type 0
 IsText its text = (news : List ℕ) (saved : Bool) → outputs_of news its saved ≡ says (news ++ text)
 
 module _ (Answers : RunView → Inquiry → Answer → Type 0) where
-  -- where the line asks something of the run, this answers it
-  abbrev pub IsAnsweredAt : Exchange → Part → Type 0
-  IsAnsweredAt exchange part =
-      (inquiry : Inquiry) → exchange.0 ≡ Ask inquiry → AnswersNow Answers part inquiry exchange.1.answer
-
-  -- What a line asks for was done, by this seat, with these replies. Where its command was given more often, the
-  -- journal is full.
-  pub record HasDone (seat : ℕ) (old : Part) (exchange : Exchange) (got : List ReplyView) (new : Part) : Type 0 where
-    pub calls : HasGot seat old exchange.0 got new
-    pub given : IsGiven exchange got
-    pub fits : length got ≤ given_at exchange
-    pub full : length got < given_at exchange → IsFull new
-    pub answer : IsAnsweredAt exchange new
+  -- what a line asks for was done, by this seat
+  pub record HasDone (seat : ℕ) (old : Part) (exchange : Exchange) (new : Part) : Type 0 where
+    pub calls : HasGot seat old exchange.0 (replies_at exchange) new
+    pub done : IsDoneAfter Answers old.entries new (length old.calls) exchange
 
   module _ (style : StyleView) where
     -- what is put out at a line that asks for this, without the prompt, whatever else came of the line; out of memory
     -- it may have been begun
-    abbrev pub PutsOut : {E : Type 0} → Effect → Result Shown E → SessionView → Request → SessionView → Type 0
-    PutsOut effect (Ok its) old request new =
-        (given : ℕ) × (answer : Answer) × (got : List ReplyView)
-        × (let exchange : Exchange = (request, record effect { given = given; answer = answer }) in
-        HasDone old.seat old.part exchange got new.part
-        × (outputs_of effect.news its effect.saved ≡ responded style (at_line old got) exchange))
-    PutsOut effect (Err fault) old request new = HasBegun old.seat old.part request new.part
+    abbrev pub PutsOut : {E : Type 0} → Effect → Result Shown E → Place → Part → Request → Part → Type 0
+    PutsOut effect (Ok its) place old request new =
+        (got : List ReplyView) × (answer : Answer)
+        × (let exchange : Exchange = (request, record effect { got = got; answer = answer }) in
+        HasDone place.seat old exchange new
+        × (outputs_of effect.news its effect.saved ≡ responded style place exchange))
+    PutsOut effect (Err fault) place old request new = HasBegun place.seat old request new
 
     -- what is put out then, whether its file is written or not
     abbrev pub Shows : {E : Type 0} → Result Shown E → SessionView → Request → SessionView → Type 0
     Shows (Ok its) old request new =
-        (saved : Bool) → (effect : Effect) × (got : List ReplyView)
-        × HasDone old.seat old.part (request, effect) got new.part × HasLooked old (request, effect) new
-        × (outputs_of [] its saved ≡ shown style (at_line old got) (request, effect))
-        × (new.watched ≡ watched_next old.watched (request, effect))
+        (saved : Bool) → (effect : Effect)
+        × HasDone old.place.seat old.part (request, effect) new.part × HasLooked old (request, effect) new.part
+        × (outputs_of [] its saved ≡ shown style old.place (request, effect))
+        × (new.place ≡ next_place style old.place (request, effect))
     Shows (Err fault) old request new =
         MakesNone old.part new.part
-        ⊎ (HasBegun old.seat old.part request new.part × (effect : Effect) × HasLooked old (request, effect) new)
+        ⊎ (HasBegun old.place.seat old.part request new.part
+        × (effect : Effect) × HasLooked old (request, effect) new.part)

@@ -1,5 +1,5 @@
 -- What a session shows of others to whoever watches.
-use Rattle.std.specs.Prelude.{◌≡◌, ℕ, ◌≤◌, ◌||◌, Bool, List, [], MatchBool, if◌then◌else◌, Option, Some, None}
+use Rattle.std.specs.Prelude.{◌≡◌, ℕ, ◌||◌, Bool, List, [], MatchBool, if◌then◌else◌, Option, Some, None}
 use Rattle.std.specs.Prelude.{is_some, unwrap_or}
 use Rattle.cdb_session.specs.Exchanges.{Exchange}
 use Rattle.cdb_session.specs.Parts.{HaveJust}
@@ -29,15 +29,15 @@ news_up_to part (Some from) to = part.news from to
 module _ (part : Part) (count least : ℕ) (watched : Option ℕ) where
   -- it was seen up to there, and these are the news up to there
   pub record AreNews (seen : ℕ) (news : List ℕ) : Type 0 where
-    pub no_less : least ≤ seen
-    pub seen_is : HaveJust part count seen
+    pub seen_is : HaveJust least part count seen
     pub news_are : news ≡ news_up_to part watched seen
 
   -- at a line that asks for this; where nobody looks, there are none
   abbrev pub HasNews : Request → ℕ → List ℕ → Type 0
   HasNews request seen news = MatchBool (looks (is_some watched) request) (AreNews seen news) (news ≡ [])
 
--- A line shows the news from where those before have ended: so each entry is shown once, and in order.
-abbrev pub HasNewsAfter : Part → ℕ → Option ℕ → Exchange → Type 0
-HasNewsAfter part count watched exchange =
-    HasNews part count (unwrap_or watched 0) watched exchange.0 exchange.1.seen exchange.1.news
+-- A line shows the news from where those before have ended, or from the first of its session on: so each entry is shown
+-- once, and in order.
+abbrev pub HasNewsAfter : ℕ → Part → ℕ → Option ℕ → Exchange → Type 0
+HasNewsAfter least part count watched exchange =
+    HasNews part count (unwrap_or watched least) watched exchange.0 exchange.1.seen exchange.1.news

@@ -1,80 +1,58 @@
--- The responses of a session by the replies to its commands, whatever else its journal has.
-use Rattle.std.specs.Prelude.{ℕ, zero, suc, ◌+◌, List, [], ◌∷◌, ◌++◌, drop, fold, Option, None}
-use Rattle.cdb_commands.specs.ReplyView.{ReplyView}
+-- The responses of a session, by what came of its lines.
+use Rattle.std.specs.Prelude.{ℕ, zero, suc, ◌+◌, List, [], ◌∷◌, ◌++◌, map, fold, None, if◌then◌else◌}
+use Rattle.cdb_commands.specs.ReplyView.{ReplyView, is_refused}
 use Rattle.cdb_text.specs.Texts.{text_of}
-use Rattle.cdb_session.specs.Dialogues.{full_text, answer_text, own_response, responded_by, shown_by, shown_from_by}
-use Rattle.cdb_session.specs.Dialogues.{dialogue_by}
-use Rattle.cdb_session.specs.Exchanges.{Exchange, given_at}
-use Rattle.cdb_session.specs.Moves.{Output}
+use Rattle.cdb_session.specs.Dialogues.{full_text, answer_text, own_response, prompt_after, saved_at}
+use Rattle.cdb_session.specs.Exchanges.{Exchange}
+use Rattle.cdb_session.specs.Moves.{Output, file, says}
 use Rattle.cdb_session.specs.News.{watched_next}
 use Rattle.cdb_session.specs.Parts.{seat_next}
 use Rattle.cdb_session.specs.Styles.{StyleView}
 use Rattle.cdb_session.specs.declared.request.Request.TheVariants.{Call, Ask}
+use Rattle.cdb_session.specs.declared.session.Place.{Place}
 
--- A session between two lines: its seat, the replies to the commands that follow, how many lines there were, and from
--- which entry on those of others are still to be shown, if somebody watches.
-pub record Along : Type 0 where
-  pub seat : ℕ
-  pub replies : List ReplyView
-  pub lines : ℕ
-  pub watched : Option ℕ
-
--- A command has the text of its reply. Where the replies have ended, the journal is full.
-abbrev pub reply_text : List ReplyView → List ℕ
-reply_text [] = full_text
-reply_text (reply ∷ replies) = text_of reply
-
--- the replies to the commands after it
-abbrev pub next_replies : List ReplyView → List ReplyView
-next_replies [] = []
-next_replies (reply ∷ replies) = replies
-
--- so one that is given several times
+-- The texts of the replies to a command that is to be given so many times. Where they end before it is refused, the
+-- journal is full.
 abbrev pub replies_text : ℕ → List ReplyView → List ℕ
-replies_text zero replies = []
-replies_text (suc count) replies = reply_text replies ++ replies_text count (next_replies replies)
+replies_text zero got = []
+replies_text (suc times) [] = full_text
+replies_text (suc times) (reply ∷ got) = text_of reply ++ (if is_refused reply then [] else replies_text times got)
 
 module _ (style : StyleView) where
-  -- before the first line of a session whose commands get these replies
-  abbrev pub begun_along : List ReplyView → Along
-  begun_along replies = record { seat = style.first; replies = replies; lines = 0; watched = None }
+  -- before the first line
+  abbrev pub first_place : Place
+  first_place = record { seat = style.first; lines = 0; watched = None }
 
-  -- the response at a line
-  abbrev pub response : Along → Exchange → List ℕ
-  response s (Call command times, effect) = replies_text effect.given s.replies
-  response s (Ask inquiry, effect) = answer_text (s.lines + 1) inquiry effect.answer effect.saved
-  response s exchange = own_response style.chooses s.lines exchange.0
-
-  -- the news come before it
-  abbrev pub news_and_response : Along → Exchange → List ℕ
-  news_and_response s exchange = exchange.1.news ++ response s exchange
-
-  -- the session after the line
-  abbrev pub next_along : Along → Exchange → Along
-  next_along s exchange =
+  -- after a line
+  abbrev pub next_place : Place → Exchange → Place
+  next_place at exchange =
       record {
-        seat = seat_next style.chooses s.seat exchange.0;
-        replies = drop (given_at exchange) s.replies;
-        lines = s.lines + 1;
-        watched = watched_next s.watched exchange;
+        seat = seat_next style.chooses at.seat exchange.0;
+        lines = at.lines + 1;
+        watched = watched_next at.watched exchange;
       }
 
-  -- ---- all lines
+  -- after all of these lines
+  abbrev pub place_after : List Exchange → Place
+  place_after exchanges = fold next_place first_place exchanges
 
-  abbrev pub responded : Along → Exchange → List Output
-  responded s exchange = responded_by news_and_response next_along style.prompt s exchange
+  -- the response at a line
+  abbrev pub response : Place → Exchange → List ℕ
+  response at (Call command times, effect) = replies_text times effect.got
+  response at (Ask inquiry, effect) = answer_text (at.lines + 1) inquiry effect.answer effect.saved
+  response at exchange = own_response style.chooses (at.lines + 1) exchange.0
 
-  abbrev pub shown : Along → Exchange → List Output
-  shown s exchange = shown_by news_and_response next_along style.prompt s exchange
+  -- what is saved comes first, and then the news
+  abbrev pub responded : Place → Exchange → List Output
+  responded at exchange = map file (saved_at exchange) ++ says (exchange.1.news ++ response at exchange)
 
-  abbrev pub shown_from : Along → List Exchange → List Output
-  shown_from s exchanges = shown_from_by news_and_response next_along style.prompt s exchanges
+  abbrev pub shown : Place → Exchange → List Output
+  shown at exchange = responded at exchange ++ says (prompt_after style.prompt exchange.0)
 
-  -- all that is put out in a session whose commands get these replies, at these lines
-  abbrev pub dialogue : List ReplyView → List Exchange → List Output
-  dialogue replies exchanges =
-      dialogue_by news_and_response next_along style.prompt style.greeting (begun_along replies) exchanges
+  abbrev pub shown_from : Place → List Exchange → List Output
+  shown_from at [] = []
+  shown_from at (exchange ∷ exchanges) = shown at exchange ++ shown_from (next_place at exchange) exchanges
 
-  -- the session after these lines
-  abbrev pub along_after : Along → List Exchange → Along
-  along_after s exchanges = fold next_along s exchanges
+  -- all that is put out in a session, at these lines: the greeting stands before the first prompt
+  abbrev pub dialogue : List Exchange → List Output
+  dialogue exchanges = says (style.greeting ++ style.prompt) ++ shown_from first_place exchanges

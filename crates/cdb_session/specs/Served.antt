@@ -13,27 +13,27 @@ use Rattle.cdb_session.specs.Sessions.{IsSessionBy}
 use Rattle.cdb_session.specs.Styles.{StyleView, Part}
 use Rattle.cdb_session.specs.declared.inquiry.Inquiry.{Inquiry}
 
-module _ (Answers : RunView → Inquiry → Answer → Type 0) (style : StyleView) (part : Part) where
+module _ (Answers : RunView → Inquiry → Answer → Type 0) (style : StyleView) (begun part : Part) where
   -- these are the responses to these lines, whose commands the journal has, and after them maybe those of further
   -- lines
   abbrev pub IsAnswered : List (List ℕ) → List Output → Type 0
   IsAnswered lines outputs =
-      (exchanges others : List Exchange) × AreAsked exchanges lines × (outputs ≡ dialogue style part.replies exchanges)
-      × HasExchanges Answers style part (exchanges ++ others)
+      (exchanges others : List Exchange) × AreAsked exchanges lines × (outputs ≡ dialogue style exchanges)
+      × HasExchanges Answers style begun part (exchanges ++ others)
 
   -- so it is, without further ones
   abbrev pub IsServed : List (List ℕ) → List Output → Type 0
   IsServed lines outputs =
-      (exchanges : List Exchange) × AreAsked exchanges lines × (outputs ≡ dialogue style part.replies exchanges)
-      × HasExchanges Answers style part exchanges
+      (exchanges : List Exchange) × AreAsked exchanges lines × (outputs ≡ dialogue style exchanges)
+      × HasExchanges Answers style begun part exchanges
 
   -- the journal has the commands of these lines, and of the next line's command as often as it was given until then
   pub record HasCommandsSoFar (lines next : List (List ℕ)) : Type 0 where
     pub exchanges : List Exchange
-    pub begun : List Exchange
+    pub beginning : List Exchange
     pub asked : AreAsked exchanges lines
-    pub next_asked : AllZip AsksForNoLess begun next
-    pub commands : HasExchanges Answers style part (exchanges ++ begun)
+    pub next_asked : AllZip AsksForNoLess beginning next
+    pub commands : HasExchanges Answers style begun part (exchanges ++ beginning)
 
   -- The first of the lines have their responses in full, and the others not at all. The journal has the commands of the
   -- first lines, and of the next line what was given of its command.

@@ -22,13 +22,12 @@ pub record StyleView : Type 0 where
 abbrev pub prompt_at : Bool → ℕ → List ℕ → List ℕ
 prompt_at numbered seat prompt = if numbered then (decimal seat ++ prompt) else prompt
 
--- What a journal has of a session: its entries, in order; the replies to them, each at its position in the journal; how
--- many entries the journal had before the session, and how many it has in all; of so many of its first entries how many
--- are of the session, and the run that they leave; and of two positions the news of others between them.
+-- What a journal has of a session and of those before it: its entries, in order; the replies to them, each at its
+-- position in the journal; how many entries the journal has in all; of so many of its first entries how many are of the
+-- session, and the run that they leave; and of two positions the news of others between them.
 pub record Part : Type 0 where
   pub calls : List Entry
   pub replies : List ReplyView
-  pub before : ℕ
   pub entries : ℕ
   pub calls_in : ℕ → ℕ
   pub left_by : ℕ → RunView
@@ -39,7 +38,6 @@ IsFull part = part.entries ≡ MAX_ENTRIES
 
 -- the journal begins as before
 pub record GoesOn (old new : Part) : Type 0 where
-  pub before : new.before ≡ old.before
   pub longer : old.entries ≤ new.entries
   pub calls_in : (first : ℕ) → first ≤ old.entries → new.calls_in first ≡ old.calls_in first
   pub left_by : (first : ℕ) → first ≤ old.entries → new.left_by first ≡ old.left_by first

@@ -5,7 +5,7 @@ ghost use Rattle.std.specs.List.{list_any};
 ghost use Rattle.std.specs.Str.{bytes_eq};
 ghost use Rattle.cdb_text.specs.Grammar.{words_of};
 ghost use Rattle.cdb_text.specs.Pushes.{Pushes};
-ghost use Rattle.cdb_session.specs.Due.{due_text, names, words_at, is_number, may_stand};
+ghost use Rattle.cdb_session.specs.Due.{due_text, names, words_at, may_stand};
 ghost use Rattle.cdb_session.specs.Due.{behind, dues_of};
 ghost use Rattle.cdb_session.specs.Due.{ends, stands, first_amiss, amiss_in, shown_byte, shown_word, amiss_text};
 
@@ -53,13 +53,6 @@ const SEATS: [&[u8]; 9] = [b"1", b"2", b"3", b"4", b"5", b"6", b"7", b"8", b"9"]
 /// How many bytes of a word are shown.
 const SHOWN: usize = 20;
 
-/// Whether a word is a number: one to six digits, the first not 0.
-fn is_number(word: &[u8]) -> bool
-    ensures { result ≡ is_number word.now }
-{
-    number_of(word).is_some()
-}
-
 impl Due {
     /// How it is named.
     fn text(self) -> &'static str
@@ -91,7 +84,7 @@ impl Due {
         match self {
             Due::Command | Due::Act | Due::Stop | Due::Register | Due::Seat | Due::Nothing => false,
             Due::File => is_file_name(word),
-            _ => is_number(word),
+            _ => number_of(word).is_some(),
         }
     }
 

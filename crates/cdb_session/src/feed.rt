@@ -25,12 +25,12 @@ pub(crate) fn respond_to_line<C: Caller, T: Console>(
     unfinished: &mut Vec<u8>,
     console: &mut T,
 ) -> Result<bool, OutputFault>
-    requires sits { MaySit style.now (C.seats session.old.caller) session.old.seat }
-    requires lines { session.old.lines < 2 ^ 64 - 1 }
+    requires sits { MaySit style.now (C.seats session.old.caller) session.old.place.seat }
+    requires lines { session.old.place.lines < 2 ^ 64 - 1 }
     ensures unfinished { RespondsToLine C.answers style.now result (T.known console.old) (T.known console.new)
         (seen_by C.part session.old) (seen_by C.part session.new)
         unfinished.old.items unfinished.new.items }
-    ensures sits { OnOk result (MaySit style.now (C.seats session.new.caller) session.new.seat) }
+    ensures sits { OnOk result (MaySit style.now (C.seats session.new.caller) session.new.place.seat) }
     ensures later { Onward C.later session.old.caller session.new.caller }
 {
     let line = line_meant(alloc, unfinished.as_slice())?;
@@ -51,15 +51,15 @@ pub(crate) fn feed<C: Caller, T: Console>(
     console: &mut T,
     bytes: &[u8],
 ) -> Result<bool, OutputFault>
-    requires sits { MaySit style.now (C.seats session.old.caller) session.old.seat }
-    requires lines { session.old.lines + length bytes.now < 2 ^ 64 }
+    requires sits { MaySit style.now (C.seats session.old.caller) session.old.place.seat }
+    requires lines { session.old.place.lines + length bytes.now < 2 ^ 64 }
     requires unfinished { length unfinished.old.items ≤ longest + 1 }
     ensures feeds { Feeds C.answers style.now result (T.known console.old) (T.known console.new)
         (seen_by C.part session.old) (seen_by C.part session.new)
         unfinished.old.items unfinished.new.items bytes.now }
     ensures unfinished { OnOk result (length unfinished.new.items ≤ longest + 1) }
-    ensures lines { OnOk result (session.new.lines ≤ session.old.lines + length bytes.now) }
-    ensures sits { OnOk result (MaySit style.now (C.seats session.new.caller) session.new.seat) }
+    ensures lines { OnOk result (session.new.place.lines ≤ session.old.place.lines + length bytes.now) }
+    ensures sits { OnOk result (MaySit style.now (C.seats session.new.caller) session.new.place.seat) }
     ensures later { Onward C.later session.old.caller session.new.caller }
 {
     let mut rest = bytes;

@@ -45,10 +45,8 @@ fn first_word(line: &[u8]) -> &[u8]
     let [_, _, rest @ ..] = line else {
         return &[];
     };
-    match rest.iter().position(|byte| *byte == b' ') {
-        Some(end) => &rest[..end],
-        None => rest,
-    }
+    let (word, _) = cdb_text::first_word(rest);
+    word
 }
 
 /// The lines of a text.

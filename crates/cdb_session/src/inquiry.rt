@@ -1,11 +1,14 @@
 //! What a line asks of the run as it stands.
 
 ghost use Rattle.std.specs.Prelude.{◌≡◌};
+ghost use Rattle.std.specs.List.{list_any};
 ghost use Rattle.cdb_text.specs.Grammar.{words_of};
 ghost use Rattle.cdb_text.specs.Words.{words_left};
 ghost use Rattle.cdb_session.specs.Inquiries.{has_other_meaning, is_file_name, is_one_piece};
+ghost use Rattle.cdb_session.specs.Typed.{is_blank};
 ghost use Rattle.cdb_session.specs.InquiryWords.{any_step_in, drawing_in, inquiry_in, repeat_in, step_in};
 
+use crate::topic::Topic;
 use crate::typed::{is_blank, is_comment, is_digits, is_name, is_word};
 use cdb_base::StepAsked;
 use cdb_text::{first_word, number_of};
@@ -72,11 +75,18 @@ fn any_step_of(words: Option<&[u8]>) -> Option<Option<StepAsked>>
     }
 }
 
+/// Whether one of the bytes is a blank.
+fn has_blank(word: &[u8]) -> bool
+    ensures { result ≡ list_any is_blank word.now }
+{
+    word.iter().any(|byte| is_blank(*byte))
+}
+
 /// Whether a word is not too long to name a file, and has no blank.
 fn is_one_piece(word: &[u8]) -> bool
     ensures { result ≡ is_one_piece word.now }
 {
-    word.len() <= MOST_NAME && !word.iter().any(|byte| is_blank(*byte))
+    word.len() <= MOST_NAME && !has_blank(word)
 }
 
 /// Whether a word stands for something else than a file: a comment, a number, or a name as it is printed.
@@ -125,14 +135,10 @@ pub(crate) fn inquiry_of(line: &[u8]) -> Option<Inquiry<'_>>
     ensures { result ≡ inquiry_in (words_of line.now) }
 {
     let (word, others) = first_word(line);
-    if word == b"explain".as_slice() {
-        return Some(Inquiry::Explain(step_of(others)?));
+    match Topic::of(word)? {
+        Topic::Explain => Some(Inquiry::Explain(step_of(others)?)),
+        Topic::Trail => Some(Inquiry::Trail(step_of(others)?)),
+        Topic::Draw => drawing_of(others),
+        _ => None,
     }
-    if word == b"trail".as_slice() {
-        return Some(Inquiry::Trail(step_of(others)?));
-    }
-    if word == b"draw".as_slice() {
-        return drawing_of(others);
-    }
-    None
 }

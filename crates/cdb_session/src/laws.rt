@@ -1,13 +1,6 @@
 //! Laws of sessions. Each function does nothing: its contract is the law.
 
-ghost use Rattle.cdb_session.specs.Laws.{JournalHasTheCommands, ExactLinesStand, SoundLinesAreTaken};
-
-/// The journal of a session has the commands of its lines, in order and each as often as it was given, with the seat
-/// that was chosen last; the other lines add nothing to it.
-#[tactic(auto, using(crate::proofs::JournalCommands::journal_has_the_commands))]
-pub fn journal_has_the_commands()
-    ensures { JournalHasTheCommands }
-{}
+ghost use Rattle.cdb_session.specs.Laws.{ExactLinesStand, SoundLinesAreTaken};
 
 /// A line of a command, and each line that a session takes beside commands, stands for itself: whoever types lines as
 /// they are in a script gets what the script gets.

@@ -23,7 +23,6 @@ mod request;
 mod response;
 mod session;
 mod shown;
-mod since;
 mod streams;
 mod style;
 mod topic;

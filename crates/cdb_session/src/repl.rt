@@ -1,9 +1,9 @@
 //! A session from its first line to its last.
 
-ghost use Rattle.std.specs.Prelude.{◌≡◌, [], ◌-◌, ◌<◌, ◌^◌, ◌++◌, None};
+ghost use Rattle.std.specs.Prelude.{◌≡◌, [], ◌-◌, ◌<◌, ◌^◌, ◌++◌};
 ghost use Rattle.cdb_session.specs.Lines.{seen_by};
+ghost use Rattle.cdb_session.specs.Replies.{first_place};
 ghost use Rattle.cdb_session.specs.Served.{HoldsSession};
-ghost use Rattle.cdb_session.specs.Since.{since};
 ghost use Rattle.cdb_session.specs.Moves.{WritesAll, says};
 ghost use Rattle.cdb_session.specs.Styles.{MaySit, Onward};
 ghost use Rattle.cdb_session.specs.Unfinished.{RespondsToLast};
@@ -12,7 +12,6 @@ use crate::caller::Caller;
 use crate::console::{Console, write_all};
 use crate::feed::{feed, respond_to_line};
 use crate::session::Session;
-use crate::since::Since;
 use crate::style::Style;
 use cdb_streams::{Failed, PlayFault};
 use itoa::Buffer;
@@ -33,8 +32,8 @@ fn respond_to_last<C: Caller, T: Console>(
     unfinished: &mut Vec<u8>,
     console: &mut T,
 ) -> Result<(), PlayFault>
-    requires sits { MaySit style.now (C.seats session.old.caller) session.old.seat }
-    requires lines { session.old.lines < 2 ^ 64 - 1 }
+    requires sits { MaySit style.now (C.seats session.old.caller) session.old.place.seat }
+    requires lines { session.old.place.lines < 2 ^ 64 - 1 }
     ensures last { RespondsToLast C.answers style.now result (T.known console.old) (T.known console.new)
         (seen_by C.part session.old) (seen_by C.part session.new) unfinished.old.items }
     ensures later { Onward C.later session.old.caller session.new.caller }
@@ -58,15 +57,14 @@ pub fn run<C: Caller, T: Console>(
     console: &mut T,
 ) -> (C, Result<(), PlayFault>)
     requires sits { MaySit style.now (C.seats caller) style.now.first }
-    ensures session { HoldsSession C.answers style.now (since (C.part caller) (C.part result.0)) result.1
+    ensures session { HoldsSession C.answers style.now (C.part caller) (C.part result.0) result.1
         (T.known console.old) (T.known console.new) }
     ensures later { Onward C.later caller result.0 }
 {
-    let mut session = Session::new(Since::new(caller), style);
+    let mut session = Session::new(caller, style);
     let mut unfinished = Vec::new(alloc);
     let outcome = run_from_first(alloc, style, &mut session, &mut unfinished, console);
-    let Session { caller: since, .. } = session;
-    let Since { caller, .. } = since;
+    let Session { caller, .. } = session;
     (caller, outcome)
 }
 
@@ -102,14 +100,10 @@ fn run_from_first<C: Caller, T: Console>(
     console: &mut T,
 ) -> Result<(), PlayFault>
     requires empty { unfinished.old.items ≡ [] }
-    requires sits { MaySit style.now (C.seats session.old.caller) session.old.seat }
-    requires calls { (C.part session.old.caller).calls ≡ [] }
-    requires replies { (C.part session.old.caller).replies ≡ [] }
-    requires lines { session.old.lines ≡ 0 }
-    requires seat { session.old.seat ≡ style.now.first }
-    requires watched { session.old.watched ≡ None }
-    ensures all { HoldsSession C.answers style.now (C.part session.new.caller) result (T.known console.old)
-        (T.known console.new) }
+    requires sits { MaySit style.now (C.seats session.old.caller) session.old.place.seat }
+    requires first { session.old.place ≡ first_place style.now }
+    ensures all { HoldsSession C.answers style.now (C.part session.old.caller) (C.part session.new.caller) result
+        (T.known console.old) (T.known console.new) }
     ensures later { Onward C.later session.old.caller session.new.caller }
 {
     let Ok(()) = write_opening(style, console) else {

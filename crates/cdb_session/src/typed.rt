@@ -1,7 +1,8 @@
 //! The line that a line stands for, as it is typed.
 
 ghost use Rattle.std.specs.Prelude.{◌≡◌, ◌≤◌, ◌∷◌, [], length, map, false, IfSome, IfNone, IfOk, OnOk};
-ghost use Rattle.std.specs.List.{join_with_byte, slice_split, before_first, after_first};
+ghost use Rattle.std.specs.Char.{is_ascii_digit};
+ghost use Rattle.std.specs.List.{join_with_byte, list_all, slice_split, before_first, after_first};
 ghost use Rattle.cdb_session.specs.Typed.{is_blank, is_comment, is_mark, is_digits, is_name, is_word, due, full};
 ghost use Rattle.cdb_session.specs.Typed.{second_words, with_word, with_piece, words_meant, line_meant};
 ghost use Rattle.cdb_session.specs.TypedWords.{texts_of, pieces_left, bytes_left};
@@ -34,11 +35,18 @@ fn is_mark(byte: u8) -> bool
     byte == b'.' || byte == b'#'
 }
 
+/// Whether each byte is a digit.
+fn all_digits(word: &[u8]) -> bool
+    ensures { result ≡ list_all is_ascii_digit word.now }
+{
+    word.iter().all(|byte| byte.is_ascii_digit())
+}
+
 /// Whether a word is written in digits.
 pub(crate) fn is_digits(word: &[u8]) -> bool
     ensures { result ≡ is_digits word.now }
 {
-    !word.is_empty() && word.iter().all(|byte| byte.is_ascii_digit())
+    !word.is_empty() && all_digits(word)
 }
 
 /// The first piece of a line, and what is left after the blank that follows it.

@@ -1,10 +1,3 @@
-pub mod Fields
-pub mod Values
 pub mod Walk
-pub mod Ranks
-pub mod KeyNames
-pub mod NoFault
-pub mod Stages
 pub mod Whole
-pub mod Equal
 pub mod InRange

@@ -7,6 +7,4 @@ pub mod Order
 pub mod Numbers
 pub mod Equal
 -- what the code keeps for itself: the parts as they are read in turn, and tests that compute
-pub mod Names
-pub mod Ranks
 pub mod Readings

@@ -1,16 +1,47 @@
--- What is read from a JSON value, and where the reading of an array stops.
-use Rattle.std.specs.Prelude.{◌≡◌, ◌≢◌, ◌⊎◌, ℕ, ◌+◌, Bool, MatchBool, List, length, map, take, slice_get, Option, Some}
-use Rattle.std.specs.Prelude.{MatchOption}
-use Rattle.std.specs.List.{AllByRecursion}
+-- The first fault of a JSON value, by the ranks of faults, and what is read from the value.
+use Rattle.std.specs.Prelude.{◌≡◌, ◌≢◌, ◌⊎◌, ℕ, ◌+◌, ◌<◌, Bool, MatchBool, List, length, map, take, slice_get, Option}
+use Rattle.std.specs.Prelude.{Some, MatchOption}
+use Rattle.std.specs.List.{AllByRecursion, list_any}
+use Rattle.std.specs.Str.{bytes_eq}
 use Rattle.serde_json.specs.Data.{Data}
 use Rattle.cdb_base.specs.Limits.{MAX_VALUE}
 use Rattle.cdb_setup.specs.declared.fault.SetupFault.{SetupFault}
-use Rattle.cdb_setup.specs.declared.fault.SetupFault.TheVariants.{UnknownKey, BadInput, BadOracle}
+use Rattle.cdb_setup.specs.declared.fault.SetupFault.TheVariants.{UnknownKey, Missing, BadInput, BadOracle}
+use Rattle.cdb_setup.specs.declared.key.Key.{Key}
 use Rattle.cdb_setup.specs.declared.key.Key.TheVariants as key
+use Rattle.cdb_setup.specs.declared.keys.TheConstants.{ALL}
 use Rattle.cdb_setup.specs.Parts.{IsWithin, AreValues, AreProcesses, AreListsOfProcesses}
-use Rattle.cdb_setup.specs.Format.{whole, array_of, array_of_whole, HasAt, HasKnownKeys, HasVersion}
+use Rattle.cdb_setup.specs.Format.{name_of, whole, array_of, array_of_whole, HasAt, HasKnownKeys, HasVersion}
 use Rattle.cdb_setup.specs.Faults.{Holds, IsWholeWithin}
-use Rattle.cdb_setup.specs.Ranks.{IsFirstOf, IsClearBelow}
+use Rattle.cdb_setup.specs.Order.{rank, IsLookedForBefore, IsFirst}
+
+-- the fault holds of the JSON value, is of this rank, and none of this rank before it holds
+pub record IsFirstOfRank (at : ℕ) (fault : SetupFault) (json : Data) : Type 0 where
+  pub in_rank : rank fault ≡ at
+  pub holds : Holds fault json
+  pub first : (other : SetupFault) → rank other ≡ at → IsLookedForBefore other fault → ¬ Holds other json
+
+-- no needed key is missing
+abbrev pub HasNeededKeys : Data → Type 0
+HasNeededKeys json = (needed : Key) → ¬ Holds (Missing needed) json
+
+-- of the needed keys that are missing, this one is the first
+abbrev pub IsFirstMissing : Key → Data → Type 0
+IsFirstMissing needed json = IsFirstOfRank 4 (Missing needed) json
+
+-- no fault of an earlier rank holds of the JSON value
+abbrev pub IsClearBelow : ℕ → Data → Type 0
+IsClearBelow at json = (other : SetupFault) → rank other < at → ¬ Holds other json
+
+-- the fault is the first that holds of the JSON value
+abbrev pub IsFirstOf : SetupFault → Data → Type 0
+IsFirstOf fault json = IsFirst (λ f. Holds f json) fault
+
+-- ---- what is read
+
+-- the name is that of a key
+abbrev pub is_key_name : List ℕ → Bool
+is_key_name name = list_any (λ k. bytes_eq name (name_of k)) ALL
 
 -- the i-th value, counted from 0, is the first of which this isn't so
 pub record IsFirstNot (P : Data → Type 0) (values : List Data) (i : ℕ) : Type 0 where

@@ -5,9 +5,8 @@ ghost use Rattle.serde_json.specs.View.{view};
 ghost use Rattle.cdb_base.specs.Limits.{MAX_PROCESSES};
 ghost use Rattle.cdb_setup.specs.Parts.{lists_in};
 ghost use Rattle.cdb_setup.specs.Faults.{IfFault, IsCount};
-ghost use Rattle.cdb_setup.specs.Ranks.{IsFirstOf, IsClearBelow};
-ghost use Rattle.cdb_setup.specs.Readings.{IsReadIfWhole, AreRead, IsListRead, AreListsRead, HasAnswers};
-ghost use Rattle.cdb_setup.specs.Readings.{IsFirstOfAnswers, IsFirstOfList, IsFirstOfLists};
+ghost use Rattle.cdb_setup.specs.Readings.{IsFirstOf, IsClearBelow, IsReadIfWhole, AreRead, IsListRead, AreListsRead};
+ghost use Rattle.cdb_setup.specs.Readings.{HasAnswers, IsFirstOfAnswers, IsFirstOfList, IsFirstOfLists};
 
 use crate::fault::SetupFault;
 use crate::key::Key;

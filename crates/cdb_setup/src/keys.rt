@@ -1,16 +1,14 @@
 //! The keys of the JSON value.
 
-ghost use Rattle.std.specs.Prelude.{◌≡◌, MatchOption, IfErr, OnOk};
-ghost use Rattle.std.specs.Prelude.{string_bytes, is_none, find};
+ghost use Rattle.std.specs.Prelude.{◌≡◌, MatchOption, IfErr, OnOk, string_bytes, is_none, find};
 ghost use Rattle.std.specs.BTreeMap.{keys};
 ghost use Rattle.std.specs.List.{list_all};
 ghost use Rattle.serde_json.specs.Data.{object};
 ghost use Rattle.serde_json.specs.Find.{get};
 ghost use Rattle.serde_json.specs.View.{view, members_view};
 ghost use Rattle.cdb_setup.specs.Format.{name_of, HasKnownKeys};
-ghost use Rattle.cdb_setup.specs.Ranks.{HasNeededKeys, IsFirstMissing, IsFirstOf, IsClearBelow};
-ghost use Rattle.cdb_setup.specs.Readings.{ChecksKeys};
-ghost use Rattle.cdb_setup.specs.Names.{is_key_name};
+ghost use Rattle.cdb_setup.specs.Readings.{HasNeededKeys, IsFirstMissing, IsFirstOf, IsClearBelow, ChecksKeys};
+ghost use Rattle.cdb_setup.specs.Readings.{is_key_name};
 
 use crate::fault::SetupFault;
 use crate::key::Key;

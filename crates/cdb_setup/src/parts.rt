@@ -5,8 +5,7 @@ ghost use Rattle.serde_json.specs.View.{view};
 ghost use Rattle.cdb_base.specs.Limits.{MAX_VALUE};
 ghost use Rattle.cdb_setup.specs.Format.{HasAlgorithm};
 ghost use Rattle.cdb_setup.specs.Faults.{IfFault, IsCount, HasOneEach, LacksOneEach};
-ghost use Rattle.cdb_setup.specs.Ranks.{IsFirstOf, IsClearBelow};
-ghost use Rattle.cdb_setup.specs.Readings.{IsReadIfWhole, IsFoundOr, HasQuorum, IsVersion};
+ghost use Rattle.cdb_setup.specs.Readings.{IsFirstOf, IsClearBelow, IsReadIfWhole, IsFoundOr, HasQuorum, IsVersion};
 ghost use Rattle.cdb_setup.specs.Readings.{AreRead, HasInputs, IsFirstOfInputs};
 
 use crate::fault::SetupFault;

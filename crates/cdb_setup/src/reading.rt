@@ -7,7 +7,7 @@ ghost use Rattle.serde_json.specs.View.{view};
 ghost use Rattle.cdb_setup.specs.Faults.{IfFault};
 ghost use Rattle.cdb_setup.specs.Format.{IsSetupOf, Encodes, longest};
 ghost use Rattle.cdb_setup.specs.Order.{IsFirstFault};
-ghost use Rattle.cdb_setup.specs.Ranks.{IsFirstOf};
+ghost use Rattle.cdb_setup.specs.Readings.{IsFirstOf};
 
 use crate::answers::answers_of;
 use crate::fault::SetupFault;

@@ -113,64 +113,56 @@ may_give rules number v w c after command r one its taken ok err = rw taken.0 (g
         inr (known_seat_of v one, command, only_is v.known_seats one, ap story ok ∙ ap (λ n. longer (story c) n command) (sym its.same))
     grows (Err fault) ok err = inl (ap story err)
 
--- the seat after a call
-pub later_called : (rules : Parts → Rules) {old new : SeatView} (c : Journaled) {after : Journaled} (number : ℕ) (command : Command)
-    (r : Result Reply CallFault) → HadTurn old c after new → IfOk r (λ _. after ≡ extended rules c number command)
-    → OnErr r (after ≡ c) → IsLater old new
-later_called rules {old} c number command (Ok reply) had ok err =
-    later had (subst (λ (y : Journaled). Begins old.seen y.journal) (sym ok) (Begins-push old.seen c.journal (entry number command) had.known.begins))
-later_called rules {old} c number command (Err fault) had ok err =
-    later had (subst (λ (y : Journaled). Begins old.seen y.journal) (sym err) had.known.begins)
-
--- a call that was answered
-pub is_call : (rules : Parts → Rules) {old new : SeatView} (c : Journaled) {after : Journaled} (number : ℕ) (command : Command)
-    (r : Result Reply CallFault) → HadTurn old c after new → old.number ≡ number
-    → IfOk r (λ reply. reply_view reply ≡ reply_in rules c number command) → IfOk r (λ _. after ≡ extended rules c number command)
-    → IfOk r (λ reply. IsCall rules old command (reply_view reply) new)
-is_call rules c number command (Ok reply) had its replied extends =
-    let known = had.known in
-    record {
-      journal = c.journal;
-      begins = known.begins;
-      calls = known.calls;
-      entry = ap (λ (s : SeatView). s.seen) had.is ∙ ap (λ (y : Journaled). y.journal) extends ∙ ap (λ n. c.journal ++ entry n command ∷ []) (sym its);
-      reply =
-          replied ∙ (λ i. reply_of (rules (known.setup i)) (replay (rules (known.setup i)) (known.setup i) (known.seats i) c.journal) (sym its i) command);
-    }
-is_call rules c number command (Err fault) had its replied extends = tt
-
--- a call that was not answered
-pub fault_calls : {old new : SeatView} {c after : Journaled} (r : Result Reply CallFault) → HadTurn old c after new
-    → OnErr r (after ≡ c) → OnErr r (SameCalls old new.seen)
-fault_calls (Ok reply) had err = tt
-fault_calls (Err fault) had err = same_calls had err
-
--- it has found a full journal just where the seat sees one
-pub fault_full : {old new : SeatView} {c after : Journaled} (r : Result Reply CallFault) → HadTurn old c after new → OnErr r (after ≡ c)
-    → ((r ≡ Err JournalFull) ↔ (length c.journal ≡ MAX_ENTRIES)) → IfErr r (λ f. (f ≡ JournalFull) ↔ SeesFull new)
-fault_full (Ok reply) had err full = tt
-fault_full (Err fault) had err full =
-    let long = ap (λ (s : SeatView). length s.seen) had.is ∙ ap (λ (y : Journaled). length y.journal) err in (
-      (λ is. long ∙ full.0 (ap (λ (f : CallFault). let r : Result Reply CallFault = Err f in r) is)),
-      (λ many. let is = full.1 (sym long ∙ many) in cc),
-    )
-
--- a call leaves the setup and the number of seats
-same_parts : (rules : Parts → Rules) (c after : Journaled) (number : ℕ) (command : Command) (r : Result Reply CallFault)
-    → IfOk r (λ _. after ≡ extended rules c number command) → OnErr r (after ≡ c) → (after.setup ≡ c.setup) × (after.seats ≡ c.seats)
-same_parts rules c after number command r ok err = grind (arith, common_steps, gets)
-
 -- the headline of the control that is given back is that of the seat
-pub sees_headline : (rules : Parts → Rules) (SameState : Parts → List Event → List Event → Type 0) {old new : SeatView}
-    (c after : Journaled) (number : ℕ) (command : Command) (r : Result Reply CallFault) → HadTurn old c after new
-    → IfOk r (λ _. after ≡ extended rules c number command) → OnErr r (after ≡ c) → HasHeadline rules SameState after
-    → SeesHeadline rules SameState new
-sees_headline rules SameState {old} c after number command r had ok err headline =
-    let parts = same_parts rules c after number command r ok err in
-    let setup = parts.0 ∙ had.known.setup in
-    let seats = parts.1 ∙ had.known.seats in
+sees_headline : (rules : Parts → Rules) (SameState : Parts → List Event → List Event → Type 0) {old new : SeatView} {c after : Journaled}
+    → HadTurn old c after new → after.setup ≡ c.setup → after.seats ≡ c.seats → HasHeadline rules SameState after → SeesHeadline rules SameState new
+sees_headline rules SameState {after = after} had setup seats headline =
     subst (SeesHeadline rules SameState) (sym had.is)
-    (subst (λ (y : Parts × ℕ). Headline rules SameState y.0 y.1 after.journal) (λ i. (setup i, seats i)) headline)
+    (subst (λ (y : Parts × ℕ). Headline rules SameState y.0 y.1 after.journal) (λ i. ((setup ∙ had.known.setup) i, (seats ∙ had.known.seats) i)) headline)
+
+-- What a call did: it was answered, or met a fault and made no call.
+pub record IsCalled (rules : Parts → Rules) (SameState : Parts → List Event → List Event → Type 0) (old new : SeatView) (command : Command)
+    (r : Result Reply CallFault) : Type 0 where
+  pub seat : IsLater old new
+  pub call : IfOk r (λ reply. IsCall rules old command (reply_view reply) new)
+  pub fault : OnErr r (SameCalls old new.seen)
+  pub full : IfErr r (λ f. (f ≡ JournalFull) ↔ SeesFull new)
+  pub headline : SeesHeadline rules SameState new
+
+pub called : (rules : Parts → Rules) (SameState : Parts → List Event → List Event → Type 0) {old new : SeatView} {c after : Journaled}
+    {number : ℕ} (command : Command) (r : Result Reply CallFault) → HadTurn old c after new → old.number ≡ number
+    → IfOk r (λ reply. reply_view reply ≡ reply_in rules c number command) → IfOk r (λ _. after ≡ extended rules c number command)
+    → OnErr r (after ≡ c) → ((r ≡ Err JournalFull) ↔ (length c.journal ≡ MAX_ENTRIES)) → HasHeadline rules SameState after
+    → IsCalled rules SameState old new command r
+called rules SameState {old} {c = c} {number = number} command (Ok reply) had its replied extends same full headline =
+    let known = had.known in
+    let journal = ap (λ (y : Journaled). y.journal) extends in
+    record {
+      seat = later had (subst (Begins old.seen) (sym journal) (Begins-push old.seen c.journal (entry number command) known.begins));
+      call = record {
+        journal = c.journal;
+        begins = known.begins;
+        calls = known.calls;
+        entry = ap (λ (s : SeatView). s.seen) had.is ∙ journal ∙ ap (λ n. c.journal ++ entry n command ∷ []) (sym its);
+        reply = replied ∙ (λ i.
+            reply_of (rules (known.setup i)) (replay (rules (known.setup i)) (known.setup i) (known.seats i) c.journal) (sym its i) command);
+      };
+      fault = tt;
+      full = tt;
+      headline = sees_headline rules SameState had (ap (λ (y : Journaled). y.setup) extends) (ap (λ (y : Journaled). y.seats) extends) headline;
+    }
+called rules SameState {old} command (Err fault) had its replied extends same full headline =
+    let long = ap (λ (s : SeatView). length s.seen) had.is ∙ ap (λ (y : Journaled). length y.journal) same in
+    record {
+      seat = later had (subst (λ (y : Journaled). Begins old.seen y.journal) (sym same) had.known.begins);
+      call = tt;
+      fault = same_calls had same;
+      full = (
+        λ is. long ∙ full.0 (ap (λ (f : CallFault). let r : Result Reply CallFault = Err f in r) is),
+        λ many. let is = full.1 (sym long ∙ many) in cc,
+      );
+      headline = sees_headline rules SameState had (ap (λ (y : Journaled). y.setup) same) (ap (λ (y : Journaled). y.seats) same) headline;
+    }
 
 rests_stage : (stage : Stage) → is_resting stage ≡ true → stage ≡ Resting
 rests_stage stage e = grind (arith, common_steps, gets)

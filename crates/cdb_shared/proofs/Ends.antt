@@ -4,6 +4,11 @@ use Rattle.std.proofs.lemmas.Option.{gets}
 use Rattle.std.proofs.Common.{◌≡◌, ℕ, zero, suc, ◌<◌, List, [], ◌∷◌, ◌++◌, length, get_or, refl, sym, subst, arith, length-append}
 
 module _ {A : Type 0} where
+  -- one of a list that has some
+  pub some_of : (xs : List A) → 0 < length xs → A
+  some_of [] low = absurd (omega arith)
+  some_of (x ∷ xs) low = x
+
   get_or-front : (xs ys : List A) (k : ℕ) (d : A) → k < length xs → get_or (xs ++ ys) k d ≡ get_or xs k d
   get_or-front xs ys k d low = grind (arith, common_steps, gets)
 

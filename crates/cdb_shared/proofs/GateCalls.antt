@@ -2,18 +2,20 @@
 use Rattle.std.proofs.lemmas.Grind.{common_steps}
 use Rattle.std.proofs.lemmas.Option.{gets}
 use Rattle.std.proofs.Common.{◌≡◌, ℕ, ◌+◌, Bool, true, false, List, [], ◌∷◌, ◌++◌, length, Option, refl, sym, ap, ◌∙◌, append-nil, append_assoc, arith}
-use Rattle.std.proofs.Common.{length-append}
+use Rattle.std.proofs.Common.{length-append, ◌≢◌, ◌≤◌, ◌↔◌, true≢false}
+use Rattle.cdb_base.specs.Limits.{MAX_ENTRIES}
+use Rattle.cdb_base.specs.Memory.{no_memory}
 use Rattle.cdb_commands.specs.declared.command.Command.{Command}
 use Rattle.cdb_commands.specs.ReplyView.{ReplyView}
 use Rattle.cdb_control.proofs.Own.{Begins-refl}
 use Rattle.cdb_control.specs.declared.control.CallFault.{CallFault}
-use Rattle.cdb_control.specs.declared.control.CallFault.TheVariants.{JournalFull, NoMemory}
+use Rattle.cdb_control.specs.declared.control.CallFault.TheVariants as call_fault
 use Rattle.cdb_rules.specs.Rules.{Rules}
 use Rattle.cdb_setup.specs.Parts.{Parts}
 use Rattle.cdb_shared.specs.declared.session.End.{End}
-use Rattle.cdb_shared.specs.declared.session.End.TheVariants.{Stopped}
-use Rattle.cdb_shared.specs.Gates.{GateCall, Asked, Notified, and_calls, IsAsked, IsNotified, gate_calls_of, last_gate_calls, CallsGate}
-use Rattle.cdb_shared.specs.Seats.{SeatView, IsLater, IsCall, SameCalls}
+use Rattle.cdb_shared.specs.declared.session.End.TheVariants.{Stopped, NoMemory, JournalFull}
+use Rattle.cdb_shared.specs.Gates.{GateCall, Asked, Notified, and_calls, IsAsked, IsNotified, gate_calls_of, last_gate_calls, gate_calls_in, IsSession}
+use Rattle.cdb_shared.specs.Seats.{SeatView, IsLater, IsCall, SameCalls, SeesFull, SeesRoom}
 use Rattle.cdb_shared.specs.Sessions.{calls_of, replies_to, end_at}
 use Rattle.cdb_shared.proofs.Steps.{IsLater-trans, calls_of-call, calls_of-fault, replies_to-call, replies_to-fault, append_one}
 
@@ -48,14 +50,6 @@ pub record Made (rules : Parts → Rules) (old new : SeatView) (before after : O
   pub many : number ≡ length commands
   pub gate_calls : after ≡ and_calls before (gate_calls_of 1 (calls_of old) commands)
 
--- A session that ended at a fault: it has made these calls and had the replies.
-pub record Faulted (rules : Parts → Rules) (old new : SeatView) (before after : Option (List GateCall)) (end : End)
-    (commands : List Command) (replies : List ReplyView) : Type 0 where
-  pub seat : IsLater old new
-  pub calls : calls_of new ≡ calls_of old ++ commands
-  pub replied : replies_to rules new ≡ replies_to rules old ++ replies
-  pub gate : CallsGate before after old new end
-
 -- of no call
 pub none_made : (rules : Parts → Rules) {seat : SeatView} (gate : Option (List GateCall)) {replies : List ReplyView} → seat.rests ≡ true → replies ≡ []
     → Made rules seat seat gate gate 0 [] replies
@@ -70,15 +64,42 @@ none_made rules {seat} gate rests none = record {
     none_known : (gate : Option (List GateCall)) → gate ≡ and_calls gate []
     none_known gate = grind (arith, common_steps, gets)
 
+-- where nothing was asked for at the end, no fault was met, and the gate stopped nothing
+calm : (end : End) (number : ℕ) (made : List Command) → last_gate_calls end number made ≡ []
+    → (end ≢ Stopped) × (end ≢ JournalFull) × (end ≢ NoMemory no_memory)
+calm end number made last = grind (arith, common_steps, gets)
+
+-- at a fault the gate was asked for the call, and let it pass
+at_fault : (fault : CallFault) (number : ℕ) (made : List Command) {end : End} → end ≡ end_at fault
+    → (last_gate_calls end number made ≡ Asked number made true ∷ []) × (end ≢ Stopped)
+    × (end ≡ JournalFull → fault ≡ call_fault.JournalFull) × (end ≡ NoMemory no_memory → fault ≢ call_fault.JournalFull)
+at_fault fault number made is = grind (arith, common_steps, gets)
+
 module _ {rules : Parts → Rules} {old seat : SeatView} {before was : Option (List GateCall)} {number : ℕ} {commands : List Command}
     {replies : List ReplyView} (made : Made rules old seat before was number commands replies) where
-  -- a session whose calls were all answered
-  pub finished : {end : End} → last_gate_calls end (length commands + 1) (calls_of old ++ commands) ≡ [] → CallsGate before was old seat end
-  finished last = record {
-    replied = commands;
-    calls = made.calls;
-    gate_calls = made.gate_calls ∙ ap (and_calls before) (sym (append-nil _) ∙ ap (λ l. gate_calls_of 1 (calls_of old) commands ++ l) (sym last));
+  -- a session that ended with these calls and replies
+  ended : {passes : Bool} {end : End} {new : SeatView} {last : Option (List GateCall)} → IsLater old new → calls_of new ≡ calls_of old ++ commands
+      → replies_to rules new ≡ replies_to rules old ++ replies → last ≡ and_calls before (gate_calls_in (calls_of old) commands end)
+      → (passes ≡ true → end ≢ Stopped) → (end ≡ JournalFull → SeesFull new) → (end ≡ NoMemory no_memory → SeesRoom new)
+      → IsSession rules passes before last old new end commands replies
+  ended later calls replied gate_calls passed full short = record {
+    seat = later;
+    calls = calls;
+    replied = replied;
+    gate = record { replied = commands; calls = calls; gate_calls = gate_calls };
+    passed = passed;
+    full = full;
+    short = short;
   }
+
+  -- one whose calls were all answered
+  pub finished : {passes : Bool} (end : End) → last_gate_calls end (length commands + 1) (calls_of old ++ commands) ≡ []
+      → IsSession rules passes before was old seat end commands replies
+  finished end last =
+      let none = calm end _ _ last in
+      ended made.seat made.calls made.replied
+      (made.gate_calls ∙ ap (and_calls before) (sym (append-nil _) ∙ ap (λ l. gate_calls_of 1 (calls_of old) commands ++ l) (sym last)))
+      (λ always. none.0) (λ is. absurd (none.1 is)) (λ is. absurd (none.2 is))
 
   module _ {asked : Option (List GateCall)} {answer : Bool} (ask : IsAsked was asked (number + 1) seat answer) where
     -- the gate was asked before the next call
@@ -89,30 +110,23 @@ module _ {rules : Parts → Rules} {old seat : SeatView} {before was : Option (L
         ∙ and_calls_twice before (gate_calls_of 1 (calls_of old) commands) _
 
     -- it did not let it pass
-    pub stopped : answer ≡ false → CallsGate before asked old seat Stopped
-    stopped is = record { replied = commands; calls = made.calls; gate_calls = with_asked false is }
+    pub stopped : {passes : Bool} → answer ≡ false → (passes ≡ true → answer ≡ true) → IsSession rules passes before asked old seat Stopped commands replies
+    stopped is always =
+        ended made.seat made.calls made.replied (with_asked false is)
+        (λ pass _. true≢false (sym (always pass) ∙ is)) (λ it. absurd (cc)) (λ it. absurd (cc))
 
     module _ (is : answer ≡ true) {new : SeatView} (later : IsLater seat new) where
       -- the call met a fault
-      pub faulted : (fault : CallFault) {end : End} → SameCalls seat new.seen → end ≡ end_at fault → Faulted rules old new before asked end commands replies
-      faulted fault {end} same ends =
-          let calls = calls_of-fault seat new later same ∙ made.calls in
-          record {
-            seat = IsLater-trans old seat new made.seat later;
-            calls = calls;
-            replied = replies_to-fault rules seat new later same ∙ made.replied;
-            gate = record {
-              replied = commands;
-              calls = calls;
-              gate_calls = with_asked true is ∙ ap (λ l. and_calls before (gate_calls_of 1 (calls_of old) commands ++ l))
-                  (sym (ap (λ (e : End). last_gate_calls e (length commands + 1) (calls_of old ++ commands)) ends ∙ last fault));
-            };
-          }
-        where
-          last : (f : CallFault) → last_gate_calls (end_at f) (length commands + 1) (calls_of old ++ commands)
-              ≡ Asked (length commands + 1) (calls_of old ++ commands) true ∷ []
-          last JournalFull = refl
-          last (NoMemory refused) = refl
+      pub faulted : {passes : Bool} (fault : CallFault) {end : End} → end ≡ end_at fault → SameCalls seat new.seen
+          → (fault ≡ call_fault.JournalFull) ↔ SeesFull new
+          → length new.seen ≤ MAX_ENTRIES → IsSession rules passes before asked old new end commands replies
+      faulted fault ends same sees limit =
+          let by = at_fault fault _ _ ends in
+          ended (IsLater-trans old seat new made.seat later) (calls_of-fault seat new later same ∙ made.calls)
+          (replies_to-fault rules seat new later same ∙ made.replied)
+          (with_asked true is ∙ ap (λ l. and_calls before (gate_calls_of 1 (calls_of old) commands ++ l)) (sym by.0))
+          (λ always. by.1) (λ it. sees.0 (by.2 it))
+          (λ it. let apart : length new.seen ≢ MAX_ENTRIES = λ many. by.3 it (sees.1 many) in omega (arith, limit, apart))
 
       -- the call had its reply, and the gate was notified
       pub one_more : (command : Command) {reply : ReplyView} {notified : Option (List GateCall)} {more : List Command} {all : List ReplyView}

@@ -3,7 +3,7 @@ use Rattle.std.proofs.lemmas.Grind.{common_steps}
 use Rattle.std.proofs.lemmas.Option.{gets}
 use Rattle.std.proofs.Common.{◌≡◌, ◌≢◌, ℕ, length-append, suc, ◌+◌, ◌<◌, ◌≤◌, ◌==◌, Bool, cond, List, [], ◌∷◌, ◌++◌, length, get_or, take}
 use Rattle.std.proofs.Common.{replicate, refl, sym, ap, ◌∙◌, subst, arith, append_assoc}
-use Rattle.std.proofs.lemmas.List.{replicate-append-replicate, take_more}
+use Rattle.std.proofs.lemmas.List.{take_more}
 use Rattle.cdb_commands.specs.declared.command.Command.{Command}
 use Rattle.cdb_base.specs.declared.refusal.Refusal.TheVariants as refusal
 use Rattle.cdb_commands.specs.ReplyView.{ReplyView, Refused}
@@ -55,21 +55,10 @@ replies_to-fault rules old new later same =
 pub calls_of-fault : (old new : SeatView) → IsLater old new → SameCalls old new.seen → calls_of new ≡ calls_of old
 calls_of-fault old new later same = ap (λ n. own n new.seen) later.number ∙ same
 
-shorter_if : (b : Bool) (x : Command) (xs : List Command) (n : ℕ) → length xs ≤ n → length (cond b (x ∷ xs) xs) ≤ suc n
-shorter_if b x xs n low = grind (arith, common_steps, gets)
-
 -- a seat has no more calls than the journal has entries
 pub length-own : (seat : ℕ) (es : List Entry) → length (own seat es) ≤ length es
 length-own seat [] = omega arith
-length-own seat (e ∷ es) = shorter_if (e.seat == seat) e.command (own seat es) (length es) (length-own seat es)
-
-pub NoneDone-push : (rs : List ReplyView) (r : ReplyView) → NoneDone rs → r ≢ Refused refusal.Done → NoneDone (rs ++ r ∷ [])
-NoneDone-push [] r none apart = (apart, tt)
-NoneDone-push (x ∷ rs) r none apart = (none.0, NoneDone-push rs r none.1 apart)
-
--- a session whose call met a fault
-pub ends_at_fault : (fault : CallFault) {end : End} → end ≡ end_at fault → (end ≢ Done) × (end ≢ Stopped)
-ends_at_fault fault is = grind (arith, common_steps, gets)
+length-own seat (e ∷ es) = grind (arith, common_steps, length-own seat es)
 
 -- a driven seat whose call did
 pub driven_fault : (fault : CallFault) {end : End} {count turns : ℕ} (replies : List ReplyView) → end ≡ end_at fault
@@ -87,9 +76,6 @@ append_one start rest x was grows is = grows ∙ ap (λ l. l ++ x ∷ []) was �
 
 pub take_one_more : {A : Type 0} (xs : List A) (i : ℕ) (x : A) → i < length xs → x ≡ get_or xs i x → take (i + 1) xs ≡ take i xs ++ x ∷ []
 take_one_more xs i x low is = take_more xs i x low ∙ ap (λ y. take i xs ++ y ∷ []) (sym is)
-
-pub replicate-push : {A : Type 0} (n : ℕ) (x : A) → replicate (n + 1) x ≡ replicate n x ++ x ∷ []
-replicate-push n x = sym (replicate-append-replicate n 1 x)
 
 -- a seat that made this many calls has seen as many entries
 pub few_calls : (old new : SeatView) (made : List Command) → calls_of new ≡ calls_of old ++ made → length new.seen ≤ 999999 → length made ≤ 999999

@@ -1,8 +1,12 @@
 -- The calls of a gate by a session: it is asked before each call, and notified after each reply.
-use Rattle.std.specs.Prelude.{◌≡◌, ℕ, ◌+◌, Bool, true, false, List, [], ◌∷◌, ◌++◌, length, Option, Some, None}
+use Rattle.std.specs.Prelude.{◌≡◌, ◌≢◌, ℕ, ◌+◌, Bool, true, false, List, [], ◌∷◌, ◌++◌, length, Option, Some, None}
+use Rattle.cdb_base.specs.Memory.{no_memory}
+use Rattle.cdb_commands.specs.ReplyView.{ReplyView}
 use Rattle.cdb_commands.specs.declared.command.Command.{Command}
-use Rattle.cdb_shared.specs.Seats.{SeatView}
-use Rattle.cdb_shared.specs.Sessions.{calls_of}
+use Rattle.cdb_rules.specs.Rules.{Rules}
+use Rattle.cdb_setup.specs.Parts.{Parts}
+use Rattle.cdb_shared.specs.Seats.{SeatView, IsLater, SeesFull, SeesRoom}
+use Rattle.cdb_shared.specs.Sessions.{calls_of, replies_to}
 use Rattle.cdb_shared.specs.declared.session.End.{End}
 use Rattle.cdb_shared.specs.declared.session.End.TheVariants.{All, Done, Stopped, NoMemory, JournalFull}
 
@@ -54,3 +58,16 @@ pub record CallsGate (old new : Option (List GateCall)) (before after : SeatView
   pub replied : List Command
   pub calls : calls_of after ≡ calls_of before ++ replied
   pub gate_calls : new ≡ and_calls old (gate_calls_in (calls_of before) replied end)
+
+-- What a session has done that led one seat to the other and ended so: it gave these commands, and had these replies.
+pub record IsSession (rules : Parts → Rules) (passes : Bool) (old new : Option (List GateCall))
+    (before after : SeatView) (end : End) (commands : List Command) (replies : List ReplyView) : Type 0 where
+  pub seat : IsLater before after
+  pub calls : calls_of after ≡ calls_of before ++ commands
+  pub replied : replies_to rules after ≡ replies_to rules before ++ replies
+  -- the calls of its gate; one that lets every call go on stops none
+  pub gate : CallsGate old new before after end
+  pub passed : passes ≡ true → end ≢ Stopped
+  -- a full journal and a lack of memory end it where the seat sees a full journal, and one with room
+  pub full : end ≡ JournalFull → SeesFull after
+  pub short : end ≡ NoMemory no_memory → SeesRoom after

@@ -39,9 +39,3 @@ IsDriven All count turns replies = (count ≡ turns) × NoneDone replies
 IsDriven Stopped count turns replies = (count < turns) × NoneDone replies
 IsDriven (Short refused) count turns replies = (count < turns) × NoneDone replies
 IsDriven Full count turns replies = (count < turns) × NoneDone replies
-
--- the replies that led one seat to the other are those of a driven seat
-abbrev pub IsDrivenFrom : (Parts → Rules) → SeatView → SeatView → End → ℕ → ℕ → Type 0
-IsDrivenFrom rules before after end count turns =
-    (replies : List ReplyView) × (replies_to rules after ≡ replies_to rules before ++ replies)
-    × IsDriven end count turns replies

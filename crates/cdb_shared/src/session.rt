@@ -1,11 +1,10 @@
 //! Sessions: a seat's calls in order, each after its gate was asked.
-ghost use Rattle.std.specs.Prelude.{◌≡◌, ◌≢◌, ◌++◌, ◌≤◌, ◌↔◌, length, map, take, replicate, vec_len, List, Bool, true};
+ghost use Rattle.std.specs.Prelude.{◌≡◌, ◌≢◌, ◌≤◌, ◌↔◌, length, map, take, replicate, vec_len, List, Bool, true};
 ghost use Rattle.std.specs.Prelude.{false, Option, None, IsTrue};
-ghost use Rattle.cdb_base.specs.Memory.{no_memory};
-ghost use Rattle.cdb_commands.specs.ReplyView.{Refused, reply_view};
-ghost use Rattle.cdb_shared.specs.Gates.{GateCall, IsAsked, IsNotified, CallsGate};
-ghost use Rattle.cdb_shared.specs.Seats.{RestsAt, IsLater, SeesFull, SeesRoom};
-ghost use Rattle.cdb_shared.specs.Sessions.{calls_of, replies_to, end_at, IsDrivenFrom};
+ghost use Rattle.cdb_commands.specs.ReplyView.{ReplyView, Refused, reply_view};
+ghost use Rattle.cdb_shared.specs.Gates.{GateCall, IsAsked, IsNotified, IsSession};
+ghost use Rattle.cdb_shared.specs.Seats.{RestsAt};
+ghost use Rattle.cdb_shared.specs.Sessions.{end_at, IsDriven};
 
 use crate::seat::Seat;
 use crate::shared::Shared;
@@ -52,7 +51,8 @@ pub enum End {
 
 /// How a session ends at a fault.
 fn ended_by(fault: CallFault) -> End
-    ensures { result ≡ end_at fault }
+    ensures by_fault { result ≡ end_at fault }
+    ensures other { (result ≢ End.All) × (result ≢ End.Done) }
 {
     match fault {
         CallFault::JournalFull => End::JournalFull,
@@ -83,17 +83,11 @@ pub fn serve<T: Runs, G: Gate + Drop, R: Wait>(
     commands: &[Command],
 ) -> (Seat<T>, Vec<Reply>, End)
     requires { RestsAt shared.now seat }
-    ensures seat { IsLater seat result.0 }
-    ensures calls { calls_of result.0 ≡ calls_of seat ++ take (vec_len result.1) commands.now }
-    ensures replies { replies_to T.rules result.0
-        ≡ replies_to T.rules seat ++ map reply_view result.1.items }
+    ensures session { (last : G) × IsSession T.rules (G.passes gate) (G.calls gate) (G.calls last)
+        seat result.0 result.2 (take (vec_len result.1) commands.now) (map reply_view result.1.items) }
     ensures fewer { vec_len result.1 ≤ length commands.now }
     ensures all { (result.2 ≡ End.All) ↔ (vec_len result.1 ≡ length commands.now) }
     ensures done { result.2 ≢ End.Done }
-    ensures full { result.2 ≡ End.JournalFull → SeesFull result.0 }
-    ensures short { result.2 ≡ End.NoMemory no_memory → SeesRoom result.0 }
-    ensures gate { (last : G) × CallsGate (G.calls gate) (G.calls last) seat result.0 result.2 }
-    ensures passes { G.passes gate ≡ true → result.2 ≢ End.Stopped }
 {
     let mut replies = Vec::new(alloc);
     let mut number = 0u32;
@@ -128,15 +122,10 @@ pub fn drive<T: Runs, G: Gate + Drop, R: Wait>(
     turns: u32,
 ) -> (Seat<T>, u32, End)
     requires { RestsAt shared.now seat }
-    ensures seat { IsLater seat result.0 }
-    ensures calls { calls_of result.0 ≡ calls_of seat
-        ++ replicate result.1 (Command.Auto process) }
     ensures turns { result.1 ≤ turns }
-    ensures replies { IsDrivenFrom T.rules seat result.0 result.2 result.1 turns }
-    ensures full { result.2 ≡ End.JournalFull → SeesFull result.0 }
-    ensures short { result.2 ≡ End.NoMemory no_memory → SeesRoom result.0 }
-    ensures gate { (last : G) × CallsGate (G.calls gate) (G.calls last) seat result.0 result.2 }
-    ensures passes { G.passes gate ≡ true → result.2 ≢ End.Stopped }
+    ensures session { (last : G) × (replies : List ReplyView) × IsDriven result.2 result.1 turns replies
+        × IsSession T.rules (G.passes gate) (G.calls gate) (G.calls last)
+        seat result.0 result.2 (replicate result.1 (Command.Auto process)) replies }
 {
     for turn in 0..turns {
         if !gate.before(turn + 1, &seat) {

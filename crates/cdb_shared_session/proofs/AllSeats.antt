@@ -21,7 +21,6 @@ use Rattle.cdb_shared_session.specs.Openings.{SeatSeen}
 use Rattle.cdb_shared_session.specs.SharedSessions.{HasEnded, IsFinished, AreSessions}
 use Rattle.cdb_session.specs.Greetings.{greeting_at, greeting_text}
 use Rattle.cdb_session.specs.Served.{IsSession}
-use Rattle.cdb_session.specs.Since.{since}
 use Rattle.cdb_session.specs.Styles.{StyleView, prompt_at}
 use Rattle.cdb_shared_session.specs.SeatParts.{is_numbered, part_in, seat_style}
 use Rattle.cdb_shared_session.specs.declared.seat.Welcome.{Welcome}
@@ -61,7 +60,7 @@ ended_known : (rules : Parts → Rules) (Answers : RunView → Inquiry → Answe
 ended_known rules Answers shared begun c Opens seat n is by few (Some ended) outcome (opening, opens, (made, makes, session)) =
     let held =
     session_known rules Answers (seat_style opening.prompt seat.setup seat.seats n) (part_in rules begun n) c seat n is by few outcome made session in
-    let at = λ (s : StyleView). IsSession Answers s (since (part_in rules begun n) (part_in rules c n)) outcome made in
+    let at = λ (s : StyleView). IsSession Answers s (part_in rules begun n) (part_in rules c n) outcome made in
     (opening, opens, record { made = made; makes = makes; session = subst at (λ i. seat_style opening.prompt (sym by.setup i) (sym by.seats i) n) held })
 ended_known rules Answers shared begun c Opens seat n is by few None outcome (fault, opens, failed, unseen) =
     (fault, opens, record { none = rw (← is, by.calls, unseen) refl; outcome_is = failed })

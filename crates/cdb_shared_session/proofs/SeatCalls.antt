@@ -31,7 +31,6 @@ module _ (rules : Parts → Rules) where
       let first_seen : (first : ℕ) → first ≤ length old.seen → take first new.seen ≡ take first old.seen =
       λ first few. ap (take first) later.begins.1 ∙ take-append-le first old.seen later.begins.0 few in
       record {
-        before = refl;
         longer = omega (arith, ap length later.begins.1, length-append old.seen later.begins.0);
         calls_in = λ first few. (λ i. length (own (later.number i) (first_seen first few i)));
         left_by = λ first few. (λ i. run_left rules (later.setup i) (later.seats i) (first_seen first few i));
@@ -85,5 +84,5 @@ pub asked_now : {E : Type 0} (rules : Parts → Rules) (Answers : RunView → In
 asked_now rules Answers seat inquiry (Ok answer) is =
     let all : take (length seat.seen) seat.seen ≡ seat.seen = take_all (length seat.seen) seat.seen (omega arith) in
     let counted = length-map (calls_of seat) (entry seat.number) in
-    (record { since = omega arith; within = omega arith; commands = rw all (omega (arith, counted)) }, rw all is)
+    (rw all (omega (arith, counted)), rw all is)
 asked_now rules Answers seat inquiry (Err fault) is = tt

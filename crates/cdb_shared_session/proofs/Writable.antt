@@ -1,6 +1,6 @@
 -- The journal of sessions has commands of lines alone, so it can be written.
 use Rattle.std.proofs.Common.{◌≡◌, ℕ, ◌+◌, ◌-◌, ◌<◌, ◌≤◌, ◌==◌, Bool, true, false, cond, List, [], ◌∷◌}
-use Rattle.std.proofs.Common.{◌++◌, drop, length, map, get_or, refl, sym, ap, ◌∙◌, inl, inr, arith}
+use Rattle.std.proofs.Common.{◌++◌, drop, length, map, get_or, refl, sym, ap, subst, ◌∙◌, inl, inr, arith}
 use Rattle.std.proofs.Math.Seq.{drop-append_seam}
 use Rattle.std.proofs.lemmas.List.{drop_all, map-append}
 use Rattle.std.specs.List.{AllByRecursion, AllZip}
@@ -15,15 +15,18 @@ use Rattle.cdb_journal.specs.OpenedFrom.{IsOpenedFrom}
 use Rattle.cdb_journal.proofs.RepliesToSeats.{read_few}
 use Rattle.cdb_rules.specs.RunView.{RunView}
 use Rattle.cdb_rules.specs.Rules.{Rules}
-use Rattle.cdb_session.specs.Exchanges.{Answer, Exchange}
+use Rattle.cdb_commands.specs.ReplyView.{ReplyView}
+use Rattle.cdb_session.specs.Answers.{HasExchanges, entries_from}
+use Rattle.cdb_session.specs.Exchanges.{Answer, Exchange, replies_at}
 use Rattle.cdb_session.specs.declared.inquiry.Inquiry.{Inquiry}
 use Rattle.cdb_session.specs.Moves.{Known, Move, read_in}
-use Rattle.cdb_rules.proofs.Alls.{all-append, all-replicate}
-use Rattle.cdb_session.specs.Parts.{HasCommands, all_asked, asked_of, entries_of, seat_next}
+use Rattle.cdb_rules.proofs.Alls.{all-append}
+use Rattle.cdb_session.specs.Parts.{entries_at, entries_of}
+use Rattle.cdb_session.specs.Replies.{first_place, next_place}
+use Rattle.cdb_session.specs.declared.session.Place.{Place}
 use Rattle.cdb_session.specs.Requests.{Asks, AsksFor, AsksForNoLess, AreAsked, ended_lines, up_to_quit}
 use Rattle.cdb_session.specs.Typed.{line_meant}
 use Rattle.cdb_session.specs.Served.{IsSession}
-use Rattle.cdb_session.specs.Since.{since}
 use Rattle.cdb_session.specs.Styles.{Part, StyleView}
 use Rattle.cdb_session.specs.declared.request.Request.{Request}
 use Rattle.cdb_session.specs.declared.request.Request.TheVariants.{Call}
@@ -68,42 +71,44 @@ all_have_line Asking has (exchange ∷ exchanges) [] asked = absurd asked
 all_have_line Asking has (exchange ∷ exchanges) (line ∷ lines) asked = (has exchange line asked.0, all_have_line Asking has exchanges lines asked.1)
 
 -- so what lines ask for has lines
-entries_have_line : (seat : ℕ) (request : Request) (count : ℕ) → HasLine request → HaveLines (entries_of seat request count)
-entries_have_line seat (Call command times) count has = all-replicate (λ e. HasNumbersInRange e.command) count (entry seat command) has
-entries_have_line seat other count has = tt
+entries_have_line : (seat : ℕ) (request : Request) (got : List ReplyView) → HasLine request → HaveLines (entries_of seat request got)
+entries_have_line seat (Call command times) [] has = tt
+entries_have_line seat (Call command times) (reply ∷ got) has = (has, entries_have_line seat (Call command times) got has)
+entries_have_line seat other got has = tt
 
-asked_have_lines : (chooses : Bool) (seat : ℕ) (exchanges : List Exchange) → HaveLine exchanges → HaveLines (all_asked chooses seat exchanges)
-asked_have_lines chooses seat [] all = tt
-asked_have_lines chooses seat (exchange ∷ exchanges) all =
-    all-append (λ e. HasNumbersInRange e.command) (asked_of seat exchange) (all_asked chooses (seat_next chooses seat exchange.0) exchanges)
-    (entries_have_line seat exchange.0 exchange.1.given all.0) (asked_have_lines chooses (seat_next chooses seat exchange.0) exchanges all.1)
+asked_have_lines : (style : StyleView) (at : Place) (exchanges : List Exchange) → HaveLine exchanges → HaveLines (entries_from style at exchanges)
+asked_have_lines style at [] all = tt
+asked_have_lines style at (exchange ∷ exchanges) all =
+    all-append (λ e. HasNumbersInRange e.command) (entries_at at.seat exchange) (entries_from style (next_place style at exchange) exchanges)
+    (entries_have_line at.seat exchange.0 (replies_at exchange) all.0) (asked_have_lines style (next_place style at exchange) exchanges all.1)
 
 -- what is true of each of two lists together
 of_both : {A : Type 0} (P : A → Type 0) (xs ys : List A) → AllByRecursion P (xs ++ ys) → AllByRecursion P xs × AllByRecursion P ys
 of_both P [] ys all = (tt, all)
 of_both P (x ∷ xs) ys all = let rest = of_both P xs ys all.1 in ((all.0, rest.0), rest.1)
 
-module _ (Answers : RunView → Inquiry → Answer → Type 0) (style : StyleView) (part : Part) where
-  calls_have_lines : (exchanges : List Exchange) → HaveLine exchanges → HasCommands style part exchanges → HaveLines part.calls
+module _ (Answers : RunView → Inquiry → Answer → Type 0) (style : StyleView) (begun part : Part) where
+  abbrev HaveMade : Type 0
+  HaveMade = (made : List Entry) × (part.calls ≡ begun.calls ++ made) × HaveLines made
+
+  calls_have_lines : (exchanges : List Exchange) → HaveLine exchanges → HasExchanges Answers style begun part exchanges → HaveMade
   calls_have_lines exchanges asked has =
-      let all = asked_have_lines style.chooses style.first exchanges asked in
-      elim has [
-        | inl same ↦ rw same all
-        | inr (full, missing, same) ↦ (of_both (λ e. HasNumbersInRange e.command) part.calls missing (rw same at all)).0
-      ]
+      let at = first_place style in (entries_from style at exchanges, has.calls, asked_have_lines style at exchanges asked)
 
   have_line : (exchanges : List Exchange) (lines : List (List ℕ)) → AreAsked exchanges lines → HaveLine exchanges
   have_line exchanges lines asked =
       all_have_line Asks (λ exchange line asks. asked_has_line exchange.0 (line_meant line) asks) exchanges (up_to_quit lines) asked
 
-  session_has_lines : (returned : Result (Unit {0}) PlayFault) (moves : List Move) → IsSession Answers style part returned moves → HaveLines part.calls
-  session_has_lines (Ok done) moves s = let r = s.ends.responded in calls_have_lines r.0 (have_line r.0 (lines_of (read_in moves)) r.1) r.3.0
-  session_has_lines (Err fault.Read) moves s = let r = s.ends.0.responded in calls_have_lines r.0 (have_line r.0 (ended_lines (read_in moves)) r.1) r.3.0
-  session_has_lines (Err fault.Write) moves s = let r = s.ends.0.responded in calls_have_lines r.0 (have_line r.0 s.ends.0.lines r.1) r.3.0
+  session_has_lines : (returned : Result (Unit {0}) PlayFault) (moves : List Move) → IsSession Answers style begun part returned moves
+      → HaveMade
+  session_has_lines (Ok done) moves s = let r = s.ends.responded in calls_have_lines r.0 (have_line r.0 (lines_of (read_in moves)) r.1) r.3
+  session_has_lines (Err fault.Read) moves s = let r = s.ends.0.responded in calls_have_lines r.0 (have_line r.0 (ended_lines (read_in moves)) r.1) r.3
+  session_has_lines (Err fault.Write) moves s = let r = s.ends.0.responded in calls_have_lines r.0 (have_line r.0 s.ends.0.lines r.1) r.3
   session_has_lines (Err (fault.NoMemory refused)) moves s =
       let r = s.ends.commands in
-      calls_have_lines (r.exchanges ++ r.begun) (all-append (λ exchange. HasLine exchange.0) r.exchanges r.begun (have_line r.exchanges s.ends.lines r.asked)
-      (all_have_line AsksForNoLess begun_has_line r.begun s.ends.next r.next_asked)) r.commands.0
+      calls_have_lines (r.exchanges ++ r.beginning)
+      (all-append (λ exchange. HasLine exchange.0) r.exchanges r.beginning (have_line r.exchanges s.ends.lines r.asked)
+      (all_have_line AsksForNoLess begun_has_line r.beginning s.ends.next r.next_asked)) r.commands
   session_has_lines (Err other) moves s = absurd s.ends
 
 -- ---- of all of them
@@ -135,9 +140,8 @@ module _ (rules : Parts → Rules) (Answers : RunView → Inquiry → Answer →
   own_came = rw (is, own-append) refl
 
   -- of what came to the journal, its own commands
-  calls_came : (since (part_in rules begun seat) (part_in rules c seat)).calls ≡ map (entry seat) (own seat its)
-  calls_came =
-      rw (own_came, map-append, drop-append_seam) refl
+  calls_came : map (entry seat) (own seat c.journal) ≡ map (entry seat) (own seat begun.journal) ++ map (entry seat) (own seat its)
+  calls_came = rw (own_came, map-append) refl
 
   none_came : own seat c.journal ≡ own seat begun.journal → own seat its ≡ []
   none_came same =
@@ -148,8 +152,13 @@ module _ (rules : Parts → Rules) (Answers : RunView → Inquiry → Answer →
   ended_in_range : (Opens : Result SeatSeen ReadFault → Type 0) (ended : Option Known) (outcome : Result (Unit {0}) PlayFault)
       → HasEnded rules Answers begun c seat Opens ended outcome → InRange (own seat its)
   ended_in_range Opens (Some ended) outcome (opening, opens, held) =
-      commands_of seat (own seat its) (rw calls_came at (session_has_lines Answers (seat_style opening.prompt c.setup c.seats seat)
-      (since (part_in rules begun seat) (part_in rules c seat)) outcome held.made held.session))
+      let (made, all, have) =
+      session_has_lines Answers (seat_style opening.prompt c.setup c.seats seat) (part_in rules begun seat) (part_in rules c seat) outcome held.made
+      held.session in
+      let front : List Entry = map (entry seat) (own seat begun.journal) in
+      let same : made ≡ map (entry seat) (own seat its) =
+      sym (drop-append_seam front made) ∙ ap (drop (length front)) (sym all ∙ calls_came) ∙ drop-append_seam front (map (entry seat) (own seat its)) in
+      commands_of seat (own seat its) (subst HaveLines same have)
   ended_in_range Opens None outcome (fault, opens, unopened) = rw (none_came unopened.none) tt
 
 pub writable : {P T : Type 0} (rules : Parts → Rules) (Answers : RunView → Inquiry → Answer → Type 0) (known : T → Known)

@@ -12,7 +12,6 @@ use Rattle.cdb_session.specs.Exchanges.{Answer}
 use Rattle.cdb_session.specs.declared.inquiry.Inquiry.{Inquiry}
 use Rattle.cdb_session.specs.Moves.{Known, Move, Makes}
 use Rattle.cdb_session.specs.Served.{IsSession}
-use Rattle.cdb_session.specs.Since.{since}
 use Rattle.cdb_setup.specs.Format.{Encodes}
 use Rattle.cdb_setup.specs.Parts.{Parts}
 use Rattle.cdb_streams.specs.Streams.{Stream}
@@ -54,7 +53,7 @@ module _ {J : Type 0} (stream : J → Stream) where
     pub seats_are : control.seats ≡ begun.seats
     pub begins : Begins begun.journal control.journal
     pub session : IsSession Answers (nine (greeting_at prompt (greeting_text begun.setup)) prompt)
-        (since (whole_part rules begun) (whole_part rules control)) returned made
+        (whole_part rules begun) (whole_part rules control) returned made
     pub keeps : IsKept stream kept.outcome file kept.file control.journal
 
   -- such a session that has made the moves, where those before were known

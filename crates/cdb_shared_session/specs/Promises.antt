@@ -8,7 +8,6 @@ use Rattle.cdb_base.specs.Limits.{MAX_SEATS}
 use Rattle.cdb_control.specs.Journal.{Journaled}
 use Rattle.cdb_session.specs.Moves.{Known}
 use Rattle.cdb_session.specs.Served.{HoldsSession}
-use Rattle.cdb_session.specs.Since.{since}
 use Rattle.cdb_session.specs.Styles.{StyleView}
 use Rattle.cdb_streams.specs.Faults.{of_reading}
 use Rattle.cdb_streams.specs.Streams.{Stream}
@@ -46,7 +45,7 @@ pub record IsUnused (shared : TableId) (welcome : Welcome) (seat : SeatView) : T
 module _ (rules : Parts → Rules) (Answers : RunView → Inquiry → Answer → Type 0) where
   -- the session of a seat in this style, by what the seat has seen before it and at its end
   abbrev pub RunsSeat : {A : Type 0} → StyleView → SeatView → SeatView → Result A PlayFault → Known → Known → Type 0
-  RunsSeat style before seat = HoldsSession Answers style (since (part_seen rules before) (part_seen rules seat))
+  RunsSeat style before seat = HoldsSession Answers style (part_seen rules before) (part_seen rules seat)
 
   -- what the thread of a seat has done, by the seat that it hands back and by what the streams were at the end, if they
   -- could be opened

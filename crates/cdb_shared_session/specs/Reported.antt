@@ -10,7 +10,6 @@ use Rattle.cdb_streams.specs.declared.buffer.OutputFault.{OutputFault}
 use Rattle.cdb_streams.specs.declared.sink.Failed.{Failed}
 use Rattle.cdb_streams.specs.declared.source.ReadFault.{ReadFault}
 use Rattle.cdb_streams.specs.declared.fault.RaceFault.{RaceFault}
-use Rattle.cdb_streams.specs.declared.fault.PlayFault.TheVariants as play
 use Rattle.cdb_streams.specs.declared.fault.RaceFault.TheVariants as fault
 use Rattle.cdb_streams.specs.Faults.{IsSetup}
 use Rattle.cdb_rules.specs.RunView.{RunView}
@@ -56,11 +55,6 @@ pub record RunsSessions {P T J O E : Type 0} (rules : Parts → Rules)
 -- The setup's first fault, else that of the journal for so many seats; or memory or a thread is not there. A setup that
 -- is too long is told so, and no thread is started for one with a fault.
 abbrev pub IsFaultOfSessions : List ℕ → List ℕ → ℕ → RaceFault → Type 0
-IsFaultOfSessions json from seats (fault.Setup why) = IsFaultOfBeginning json from seats (play.Setup why)
-IsFaultOfSessions json from seats (fault.Line number line why) =
-    IsFaultOfBeginning json from seats (play.Line number line why)
-IsFaultOfSessions json from seats (fault.ScriptTooLong number) =
-    IsFaultOfBeginning json from seats (play.ScriptTooLong number)
-IsFaultOfSessions json from seats (fault.NoMemory refused) = IsFaultOfBeginning json from seats (play.NoMemory refused)
+IsFaultOfSessions json from seats (fault.Play why) = IsFaultOfBeginning json from seats why
 IsFaultOfSessions json from seats (fault.Spawn refused) = IsSetup json
 IsFaultOfSessions json from seats other = ⊥

@@ -16,7 +16,6 @@ part_in rules c seat =
     record {
       calls = map (entry seat) (own seat c.journal);
       replies = replies_of (rules c.setup) c.setup c.seats seat c.journal;
-      before = 0;
       entries = length c.journal;
       calls_in = λ first. length (own seat (take first c.journal));
       left_by = λ first. run_left rules c.setup c.seats (take first c.journal);
@@ -29,7 +28,6 @@ part_seen rules seat =
     record {
       calls = map (entry seat.number) (calls_of seat);
       replies = replies_to rules seat;
-      before = 0;
       entries = length seat.seen;
       calls_in = λ first. length (own seat.number (take first seat.seen));
       left_by = λ first. run_left rules seat.setup seat.seats (take first seat.seen);

@@ -4,7 +4,6 @@ use Rattle.std.specs.Prelude.{Some, None, option_map, Result, Ok, Err}
 use Rattle.cdb_control.specs.Journal.{Journaled, AreOfSeats, Begins, own}
 use Rattle.cdb_session.specs.Moves.{Known, Move, Makes}
 use Rattle.cdb_session.specs.Served.{IsSession}
-use Rattle.cdb_session.specs.Since.{since}
 use Rattle.cdb_rules.specs.RunView.{RunView}
 use Rattle.cdb_rules.specs.Rules.{Rules}
 use Rattle.cdb_session.specs.Exchanges.{Answer}
@@ -31,7 +30,7 @@ module _ (rules : Parts → Rules) (Answers : RunView → Inquiry → Answer →
     pub made : List Move
     pub makes : Makes opened.console ended made
     pub session : IsSession Answers (seat_style opened.prompt c.setup c.seats seat)
-        (since (part_in rules begun seat) (part_in rules c seat)) outcome made
+        (part_in rules begun seat) (part_in rules c seat) outcome made
 
   -- what came of a seat whose streams can be opened so, by what they were at the end of its session, if there was one
   abbrev pub HasEnded : Journaled → Journaled → ℕ → (Result SeatSeen ReadFault → Type 0) → Option Known

@@ -1,7 +1,6 @@
 //! Sessions of several seats, from the text of their setup to what is written once they have ended.
 
-ghost use Rattle.std.specs.Prelude.{◌≡◌, ◌≤◌, ℕ, List, vec_len, IfOk, IfErr, OnErr};
-ghost use Rattle.cdb_session.specs.Debugs.{IsFaultOfBeginning};
+ghost use Rattle.std.specs.Prelude.{◌≡◌, ◌≤◌, vec_len, IfOk, IfErr, OnErr};
 ghost use Rattle.cdb_shared_session.specs.KeptOutcomes.{kept_outcome};
 ghost use Rattle.cdb_shared_session.specs.Reported.{RunsSessions, IsFaultOfSessions};
 
@@ -12,25 +11,11 @@ use crate::threads::debug_seats;
 use cdb_base::limits::MAX_SEATS;
 use cdb_rules::Runs;
 use cdb_session::{Answers, begin};
-use cdb_streams::{OutputFault, PlayFault, RaceFault, Sink};
+use cdb_streams::{OutputFault, RaceFault, Sink};
 use std::alloc::Global;
 use std::sync::Wait;
 use std::thread::Threads;
 use std::time::Clock;
-
-/// The fault of sessions for which there was no control. A beginning neither reads nor writes.
-fn of_beginning(fault: PlayFault) -> RaceFault
-    ensures { (json from : List ℕ) (seats : ℕ) → IsFaultOfBeginning json from seats fault →
-        IsFaultOfSessions json from seats result }
-{
-    match fault {
-        PlayFault::Setup(fault) => RaceFault::Setup(fault),
-        PlayFault::Line(script, line, fault) => RaceFault::Line(script, line, fault),
-        PlayFault::ScriptTooLong(script) => RaceFault::ScriptTooLong(script),
-        PlayFault::NoMemory(refused) => RaceFault::NoMemory(refused),
-        PlayFault::Read | PlayFault::Write => RaceFault::Write,
-    }
-}
 
 /// How a journal was kept; without a file there is no fault.
 fn outcome_of<J>(kept: &Option<Kept<J>>) -> Result<(), OutputFault>
@@ -85,7 +70,7 @@ pub fn debug_shared<
     let count = openers.len() as u8;
     let (control, greeting) = match begin::<R>(alloc, setup, from, count) {
         Ok(begun) => begun,
-        Err(fault) => return Err(of_beginning(fault)),
+        Err(fault) => return Err(RaceFault::Play(fault)),
     };
     let (control, finished, kept) = debug_seats::<R, A, P, J, Rt>(
         rt,

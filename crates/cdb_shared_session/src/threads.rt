@@ -20,7 +20,7 @@ use cdb_rules::Runs;
 use cdb_session::Answers;
 use cdb_setup::Setup;
 use cdb_shared::{Seat, Shared, Watch};
-use cdb_streams::{RaceFault, Sink};
+use cdb_streams::{PlayFault, RaceFault, Sink};
 use std::alloc::Global;
 use std::marker::PhantomData;
 use std::snapshot::Snapshot;
@@ -197,7 +197,7 @@ fn share<R: Runs, Rt: Wait>(
         Ok(opened) => Ok(opened),
         Err((control, refused)) => {
             control.close();
-            Err(RaceFault::NoMemory(refused))
+            Err(RaceFault::Play(PlayFault::NoMemory(refused)))
         }
     }
 }
@@ -207,7 +207,8 @@ fn copy(alloc: Global, setup: &Setup) -> Result<Setup, RaceFault>
     ensures same { IfOk result (λ again. again ≡ setup.now) }
     ensures fault { IfErr result IsFaultOfThreads }
 {
-    setup.copy(alloc).map_err(RaceFault::NoMemory)
+    let again = setup.copy(alloc)?;
+    Ok(again)
 }
 
 /// How sessions ended: the control, what came of each seat, and the file of the journal, if there is one.

@@ -1,2 +1,2 @@
 pub mod PlayedBack
-pub mod SliceFlags
+pub mod Led

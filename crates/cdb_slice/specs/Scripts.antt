@@ -20,13 +20,15 @@ abbrev pub command_for : Event → Command
 command_for (event.Step p k kind) = command.Step p (act_for kind)
 command_for (event.Lost copy) = command.Lose copy.msg.s copy.msg.m copy.to
 
--- the line of that command
-abbrev pub line_text : Event → List ℕ
-line_text event = printed (command_for event) ++ codes "\n"
+-- the line of a command, a line for each, in order, and for each event that of its command
+abbrev pub line_text : Command → List ℕ
+line_text command = printed command ++ codes "\n"
 
--- a line for each event, in order
+abbrev pub lines_text : List Command → List ℕ
+lines_text commands = flat_map line_text commands
+
 abbrev pub script_text : List Event → List ℕ
-script_text events = flat_map line_text events
+script_text events = lines_text (map command_for events)
 
 -- the commands for these events, given by the only seat one after another from t on, are answered with them
 abbrev pub AreAnswered : Rules → State → List Event → Type 0

@@ -1,18 +1,14 @@
--- What the subcommand writes: a script that plays the run that a script leaves, or what led to a step of it.
+-- A script that plays a run, or what led to a step of it.
 use Rattle.std.specs.Prelude.{◌≡◌, ℕ, List, Option, None, Some}
 use Rattle.cdb_base.specs.declared.event.Event.{Event}
 use Rattle.cdb_causal.specs.Dependence.{depends}
 use Rattle.cdb_causal.specs.Past.{IsSlice}
-use Rattle.cdb_explain.specs.Asked.{IsMissing, IsStepAsked}
-use Rattle.cdb_explain.specs.RunLeft.{Leaves}
-use Rattle.cdb_explain.specs.StepFaults.{IsFaultOfLeft}
+use Rattle.cdb_explain.specs.Asked.{IsStepAsked}
 use Rattle.cdb_base.specs.declared.question.StepAsked.{StepAsked}
-use Rattle.cdb_explain.specs.declared.fault.AnswerFault.{AnswerFault}
 use Rattle.cdb_rules.specs.RunView.{RunView}
 use Rattle.cdb_rules.specs.Rules.{Rules}
 use Rattle.cdb_setup.specs.Parts.{Parts}
 use Rattle.cdb_slice.specs.Scripts.{PlaysBack, script_text}
-use Rattle.cdb_streams.specs.Streams.{Stream}
 
 -- the events are all that stand; or exactly those that have led to the step that is asked for, in the order of the
 -- history
@@ -27,12 +23,3 @@ abbrev pub IsSliceText : (Parts → Rules) → RunView → Option StepAsked → 
 IsSliceText rules run step text =
     (events : List Event) × AreSliced run.history step events
     × (text ≡ script_text events) × PlaysBack (rules run.setup) run.setup events
-
--- of the run that the script leaves
-abbrev pub WritesSlice : (Parts → Rules) → List ℕ → Option StepAsked → Stream → Stream → List ℕ → Type 0
-WritesSlice rules json step old new text =
-    (run : RunView) × Leaves rules json old new run × IsSliceText rules run step text
-
--- the step does not stand in that run; else as a fault of a play
-abbrev pub IsFaultOfSlice : (Parts → Rules) → List ℕ → Option StepAsked → Stream → Stream → AnswerFault → Type 0
-IsFaultOfSlice rules json step old new = IsFaultOfLeft rules json old new (λ run. IsMissing run.history step) (λ run. ⊥)

@@ -1,8 +1,10 @@
 //! The events that a script is to play.
 
-ghost use Rattle.std.specs.Prelude.{◌≡◌, length, IfOk, MatchOption};
+ghost use Rattle.std.specs.Prelude.{◌≤◌, List, length, IfOk, MatchOption};
+ghost use Rattle.cdb_base.specs.declared.event.Event.{Event as EventName};
+ghost use Rattle.cdb_causal.specs.Dependence.{depends};
+ghost use Rattle.cdb_causal.specs.Past.{IsSlice};
 ghost use Rattle.cdb_explain.specs.Asked.{IsMissing};
-ghost use Rattle.cdb_slice.specs.Flagged.{flagged};
 ghost use Rattle.cdb_slice.specs.Slices.{AreSliced};
 
 use cdb_base::{Event, NoMemory, StepAsked};
@@ -10,22 +12,24 @@ use cdb_explain::position_of_step;
 use cdb_rules::Trace;
 use std::alloc::Global;
 
-/// The flagged events, in order.
-pub(crate) fn flagged(
-    alloc: Global,
-    events: &[Event],
-    flags: &[bool],
-) -> Result<Vec<Event>, NoMemory>
-    requires { length flags.now ≡ length events.now }
-    ensures { IfOk result (λ found. found.items ≡ flagged flags.now events.now) }
+/// The events that have led to the one at a position, from 1, and that one, in order.
+pub(crate) fn led_to(alloc: Global, run: &Trace, position: usize) -> Result<Vec<Event>, NoMemory>
+    requires from_one { 1 ≤ position }
+    requires to_len { position ≤ length run.now.history }
+    ensures { IfOk result (λ led. (others : List EventName)
+        × IsSlice depends run.now.history position led.items others) }
 {
-    let mut found = Vec::new(alloc);
+    let events = run.events();
+    let past = run.flag_past(alloc, position)?;
+    let flags = past.as_slice();
+    let mut led = Vec::new(alloc);
     for i in 0..events.len() {
+        let event = events[i];
         if flags[i] {
-            found.push(events[i])?;
+            led.push(event)?;
         }
     }
-    Ok(found)
+    Ok(led)
 }
 
 /// All events of a run; with a step those that have led to it. Nothing where no such step stands.
@@ -43,6 +47,5 @@ pub(crate) fn events_for(
     let Some(position) = position_of_step(run.events(), step.p, step.k) else {
         return Ok(None);
     };
-    let flags = run.flag_past(alloc, position)?;
-    Ok(Some(flagged(alloc, run.events(), flags.as_slice())?))
+    Ok(Some(led_to(alloc, run, position)?))
 }

@@ -2,7 +2,7 @@
 //! of each is the law.
 //!
 //! ```text
-//! slice::<AnyRun, _, _>(alloc, setup, &mut script, step, &mut output)?;
+//! let text = slice::<AnyRun>(alloc, &run, step)?;
 //! ```
 #![tactic(auto)]
 
@@ -13,5 +13,5 @@ mod script;
 mod slices;
 
 pub use past::past_of;
-pub use script::{command_for, script_of};
+pub use script::{command_for, commands_for, lines_of, script_of};
 pub use slices::slice;

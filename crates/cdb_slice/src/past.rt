@@ -7,25 +7,11 @@ ghost use Rattle.cdb_causal.specs.Past.{IsSlice};
 ghost use Rattle.cdb_rules.specs.ByRules.{IsInOrder};
 ghost use Rattle.cdb_rules.specs.Runs.{with_history};
 
-use crate::events::flagged;
-use cdb_base::{Event, NoMemory};
-use cdb_explain::{fresh, take_next};
+use crate::events::led_to;
+use cdb_base::NoMemory;
+use cdb_explain::played;
 use cdb_rules::{Runs, Trace};
 use std::alloc::Global;
-
-/// A run of the same setup in which just these events were taken.
-fn played<T: Runs>(alloc: Global, run: &Trace, events: &[Event]) -> Result<T, NoMemory>
-    requires { IsInOrder T.rules (with_history run.now events.now) }
-    ensures { IfOk result (λ again. T.run again ≡ with_history run.now events.now) }
-{
-    let mut again = fresh::<T>(alloc, run)?;
-    // Its clause says that the parts of the setup are in range.
-    let _ranges = run.setup().n();
-    for i in 0..events.len() {
-        take_next(alloc, &mut again, &events[i])?;
-    }
-    Ok(again)
-}
 
 /// What has led to the event at a position, from 1, which is a run by itself: the event is the last one of it.
 ///
@@ -43,8 +29,7 @@ pub fn past_of<T: Runs>(alloc: Global, run: &Trace, position: usize) -> Result<T
 {
     // Its clause says that the parts of the setup are in range.
     let _ranges = run.setup().n();
-    let flags = run.flag_past(alloc, position)?;
-    let events = flagged(alloc, run.events(), flags.as_slice())?;
+    let events = led_to(alloc, run, position)?;
     let again = played::<T>(alloc, run, events.as_slice())?;
     let (setup, history) = again.into_parts();
     Trace::new(alloc, setup, history)

@@ -1,12 +1,12 @@
-//! A script of events, one a line.
+//! A script of commands, one a line.
 
-ghost use Rattle.std.specs.Prelude.{◌≡◌, IfOk};
+ghost use Rattle.std.specs.Prelude.{◌≡◌, IfOk, map};
 ghost use Rattle.cdb_rules.specs.Refusals.{act_for};
-ghost use Rattle.cdb_slice.specs.Scripts.{command_for, line_text, script_text};
+ghost use Rattle.cdb_slice.specs.Scripts.{command_for, line_text, lines_text, script_text};
 ghost use Rattle.cdb_text.specs.Pushes.{Pushes};
 
-use cdb_base::{Act, Event, Kind, NoMemory};
-use cdb_commands::Command;
+use cdb_base::{Act, Event, Kind, NoMemory, Reg};
+use cdb_commands::{Command, Stop, View};
 use cdb_text::push_command;
 use std::alloc::{AllocError, Global};
 
@@ -37,29 +37,50 @@ pub fn command_for(event: &Event) -> Command
     }
 }
 
-/// Adds the line of the command that takes an event.
-fn push_line(text: &mut String, event: &Event) -> Result<(), AllocError>
-    ensures { Pushes result text.old text.new (line_text event.now) }
+/// The commands that take these events.
+pub fn commands_for(alloc: Global, events: &[Event]) -> Result<Vec<Command>, NoMemory>
+    ensures { IfOk result (λ commands. commands.items ≡ map command_for events.now) }
 {
-    push_command(text, &command_for(event))?;
+    // Names each type inside a command: the checker asks for that where a command is passed for a type parameter.
+    let _parts: (Option<Stop>, Option<Act>, Option<View>, Option<Reg>) = (None, None, None, None);
+    let mut commands = Vec::with_capacity(alloc, events.len())?;
+    for event in events {
+        commands.push(command_for(event))?;
+    }
+    Ok(commands)
+}
+
+/// Adds the line of a command.
+fn push_line(text: &mut String, command: &Command) -> Result<(), AllocError>
+    ensures { Pushes result text.old text.new (line_text command.now) }
+{
+    push_command(text, command)?;
     text.push('\n')
 }
 
-/// Adds a line for each event, in order.
-fn push_script(text: &mut String, events: &[Event]) -> Result<(), AllocError>
-    ensures { Pushes result text.old text.new (script_text events.now) }
+/// Adds a line for each command, in order.
+fn push_lines(text: &mut String, commands: &[Command]) -> Result<(), AllocError>
+    ensures { Pushes result text.old text.new (lines_text commands.now) }
 {
-    for event in events {
-        push_line(text, event)?;
+    for command in commands {
+        push_line(text, command)?;
     }
     Ok(())
+}
+
+/// The script of these commands.
+pub fn lines_of(alloc: Global, commands: &[Command]) -> Result<Vec<u8>, NoMemory>
+    ensures { IfOk result (λ text. text.items ≡ lines_text commands.now) }
+{
+    let mut text = String::new(alloc);
+    push_lines(&mut text, commands)?;
+    Ok(text.into_bytes())
 }
 
 /// The script of these events.
 pub fn script_of(alloc: Global, events: &[Event]) -> Result<Vec<u8>, NoMemory>
     ensures { IfOk result (λ text. text.items ≡ script_text events.now) }
 {
-    let mut text = String::new(alloc);
-    push_script(&mut text, events)?;
-    Ok(text.into_bytes())
+    let commands = commands_for(alloc, events)?;
+    lines_of(alloc, commands.as_slice())
 }

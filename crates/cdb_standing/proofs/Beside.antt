@@ -1,10 +1,11 @@
 -- What the standing steps left, beside them.
 use Rattle.std.proofs.lemmas.Grind.{common_steps}
-use Rattle.std.proofs.Common.{◌≡◌, ◌≢◌, ℕ, zero, suc, ◌+◌, ◌-◌, ◌<◌, ◌≤◌, List, [], ◌∷◌, ◌++◌, length, Some, ◌⊎◌, unwrap_or, inl, inr, ⊎_elim}
-use Rattle.std.proofs.Common.{length-append, refl, sym, ap, ap₂, ◌∙◌, arith}
-use Rattle.std.proofs.lemmas.Bool.{cases_eq}
+use Rattle.std.proofs.Common.{◌≡◌, ◌≢◌, ℕ, zero, suc, ◌+◌, ◌-◌, ◌<◌, ◌≤◌, List, [], ◌∷◌, ◌++◌, length, nat_eq, Some, unwrap_or, inl}
+use Rattle.std.proofs.Common.{inr, ⊎_elim, eq-eqb, refl, sym, ap, ap₂, ◌∙◌, arith}
+use Rattle.std.proofs.lemmas.Bool.{cases_eq, cases_lt}
 use Rattle.std.proofs.lemmas.Option.{none-some, gets}
 use Rattle.std.proofs.lemmas.List.{map-append}
+use Rattle.cdb_base.specs.Event.{is_step_of}
 use Rattle.cdb_base.specs.Positions.{nth}
 use Rattle.cdb_base.specs.declared.event.Event.{Event}
 use Rattle.cdb_base.specs.declared.event.Event.TheVariants.{Step, Lost}
@@ -13,40 +14,47 @@ use Rattle.cdb_base.specs.declared.name.CopyName.{CopyName}
 use Rattle.cdb_base.specs.declared.name.StepId.TheVariants as named
 use Rattle.cdb_causal.specs.Rollback.{without}
 use Rattle.cdb_causal.proofs.Lists.{map-without, nth_map}
+use Rattle.cdb_standing.specs.Comparisons.{steps_by, AreNumbered}
 use Rattle.cdb_standing.specs.InOrder.{Has}
-use Rattle.cdb_standing.specs.UndoDataLists.{undo_data_of, recorded_with, AreUpTo, AreBeside}
-use Rattle.cdb_standing.specs.Moves.{StandsIn, HasStep, IsNextStep, IsEndOf, IsFreeAlone, IsTakenOut}
+use Rattle.cdb_standing.specs.UndoDataLists.{undo_data_of, recorded_with, AreBeside}
+use Rattle.cdb_standing.specs.Moves.{IsNextStep, IsEndOf, IsFreeAlone, IsTakenOut}
 use Rattle.cdb_standing.specs.Recorded.{events_of, nothing, recorded_of, IsRecordTakenOut}
 use Rattle.cdb_standing.specs.Tables.{row_of, IsPutOn}
 use Rattle.cdb_standing.specs.declared.recorded.UndoData.{UndoData}
 use Rattle.cdb_standing.specs.declared.recorded.Recorded.{Recorded}
-use Rattle.cdb_standing.proofs.Ordered.{has_at, at_has, has_left, has_right, has_cases, without_keeps, without_only}
-use Rattle.cdb_standing.proofs.Numbered.{has}
-use Rattle.cdb_standing.proofs.Rows.{put_joins, next_is, same_numbers, one_number_more}
+use Rattle.cdb_standing.proofs.Ordered.{has_at}
+use Rattle.cdb_standing.proofs.Numbered.{has, step_there, last_number, one_if}
+use Rattle.cdb_standing.proofs.Rows.{put_joins}
 
--- ---- what stands in a list, and in one without an event
+-- ---- how many steps of a process stand, where an event comes or goes
 
-stands_has : (history : List Event) (it : Event) → StandsIn history it → Has history it
-stands_has history it (zero, at) = absurd (none-some it at)
-stands_has history it (suc i, at) = at_has history i it at
+counted_more : (p : ℕ) (history : List Event) (event : Event)
+    → length (steps_by p (history ++ event ∷ [])) ≡ length (steps_by p history) + one_if (is_step_of p event)
+counted_more p history event = grind (arith, common_steps, gets)
 
-has_stands : (history : List Event) (it : Event) → Has history it → StandsIn history it
-has_stands history it h = let found = has_at history it h in (suc found.0, found.1)
+counted_less : (p : ℕ) (history : List Event) (at : ℕ) (event : Event) → nth history at ≡ Some event
+    → length (steps_by p history) ≡ length (steps_by p (without history at)) + one_if (is_step_of p event)
+counted_less p history zero event there = absurd (none-some event there)
+counted_less p [] (suc i) event there = absurd (none-some event there)
+counted_less p (x ∷ xs) (suc zero) event there = grind (arith, common_steps, gets)
+counted_less p (x ∷ xs) (suc (suc i)) event there = let again = counted_less p xs (suc i) event there in grind (arith, common_steps)
 
-pub stands_front : (history : List Event) (more it : Event) → StandsIn history it → StandsIn (history ++ more ∷ []) it
-stands_front history more it h = has_stands (history ++ more ∷ []) it (has_left history (more ∷ []) it (stands_has history it h))
+-- ---- the numbers of the next step of a process, and of its last
 
-module _ (history : List Event) (at : ℕ) (gone : Event) (there : nth history at ≡ Some gone) where
-  pub stood : (it : Event) → StandsIn (without history at) it → StandsIn history it
-  stood it h = has_stands history it (without_only history at it (stands_has (without history at) it h))
-
-  pub stays : (it : Event) → it ≢ gone → StandsIn history it → StandsIn (without history at) it
-  stays it other h = has_stands (without history at) it (without_keeps history at gone it there (stands_has history it h) other)
+module _ {p k : ℕ} (history : List Event) (numbered : AreNumbered p history) (end : IsEndOf history p (length (steps_by p history))) where
+  next_counted : IsNextStep history p k → k ≡ length (steps_by p history) + 1
+  next_counted next =
+      let low : k ≤ length (steps_by p history) + 1 =
+      ⊎_elim (λ one. omega arith) (λ h. let within = end (k - 1) h in omega arith) next.behind in
+      elim (cases_lt (length (steps_by p history)) k) [
+        | inl more ↦ omega arith
+        | inr few ↦ absurd (next.new (has p history k (step_there p history numbered k next.from_one few)))
+      ]
 
 -- ---- lists of what is recorded
 
 module _ {B : Type 0} where
-  pub events_recorded : (lefts : List (List (UndoData B))) (history : List Event) → events_of (recorded_with lefts history) ≡ history
+  events_recorded : (lefts : List (List (UndoData B))) (history : List Event) → events_of (recorded_with lefts history) ≡ history
   events_recorded lefts [] = refl
   events_recorded lefts (x ∷ xs) = ap (λ l. x ∷ l) (events_recorded lefts xs)
 
@@ -60,49 +68,26 @@ module _ {B : Type 0} where
   same_recorded low high [] same = refl
   same_recorded low high (x ∷ xs) same = ap₂ (λ l rest. recorded_of x l ∷ rest) (same x (inl refl)) (same_recorded low high xs (λ it h. same it (inr h)))
 
--- ---- the steps of a process, where an event comes or goes
-
-module _ (history : List Event) (event : Event) (q l : ℕ) where
-  still_has : HasStep history q l → HasStep (history ++ event ∷ []) q l
-  still_has h = (h.0, stands_front history event (Step q l h.0) h.1)
-
-  had_or_is : HasStep (history ++ event ∷ []) q l → HasStep history q l ⊎ ((kind : Kind) × (event ≡ Step q l kind))
-  had_or_is h =
-      ⊎_elim (λ old. inl (h.0, has_stands history (Step q l h.0) old)) (λ it. ⊎_elim (λ e. inr (h.0, e)) (λ no. absurd no) it)
-      (has_cases history (event ∷ []) (Step q l h.0) (stands_has (history ++ event ∷ []) (Step q l h.0) h.1))
-
-module _ (history : List Event) (at : ℕ) (gone : Event) (there : nth history at ≡ Some gone) (q l : ℕ) where
-  had : HasStep (without history at) q l → HasStep history q l
-  had h = (h.0, stood history at gone there (Step q l h.0) h.1)
-
-  keeps : ((kind : Kind) → Step q l kind ≢ gone) → HasStep history q l → HasStep (without history at) q l
-  keeps other h = (h.0, stays history at gone there (Step q l h.0) (other h.0) h.1)
-
 -- ---- beside the steps
 
-module _ {B : Type 0} {lefts : List (List (UndoData B))} {history : List Event} (beside : AreBeside lefts history) (copy : CopyName) where
-  pub beside_loss : AreBeside lefts (history ++ Lost copy ∷ [])
-  beside_loss =
-      record {
-        processes = beside.processes;
-        steps = λ p. same_numbers (beside.steps p) (λ k. (
-          λ h. ⊎_elim (λ old. old) (λ it. absurd (let e = it.1 in cc)) (had_or_is history (Lost copy) p k h),
-          still_has history (Lost copy) p k,
-        ));
-      }
+module _ {B : Type 0} {lefts : List (List (UndoData B))} {history : List Event} (beside : AreBeside lefts history) where
+  pub beside_loss : (copy : CopyName) → AreBeside lefts (history ++ Lost copy ∷ [])
+  beside_loss copy =
+      record { processes = beside.processes; steps = λ p. let same = beside.steps p in let count = counted_more p history (Lost copy) in omega arith }
 
-  pub beside_less : (at : ℕ) → nth history at ≡ Some (Lost copy) → AreBeside lefts (without history at)
-  beside_less at there =
-      record {
+  pub beside_unlost : {copy : CopyName} {new : List Event} → IsFreeAlone history (named.Lost copy)
+      → IsTakenOut history (named.Lost copy) (Lost copy) new → AreBeside lefts new
+  beside_unlost {copy} free taken =
+      let out = taken free.0 free.1 in
+      rw out.1 (record {
         processes = beside.processes;
-        steps = λ p. same_numbers (beside.steps p)
-            (λ k. (had history at (Lost copy) there p k, keeps history at (Lost copy) there p k (λ kind e. absurd (cc))));
-      }
+        steps = λ p. let same = beside.steps p in let count = counted_less p history free.0 (Lost copy) out.0 in omega arith;
+      })
 
--- something lies in the row of a process of which a step stands
-pub some_left : {B : Type 0} (lefts : List (List (UndoData B))) (history : List Event) → AreBeside lefts history → (p k : ℕ)
-    → IsFreeAlone history (named.Step (record { p = p; k = k })) → 0 < length (row_of lefts p)
-some_left lefts history beside p k free = let w = (beside.steps p).within k (has p history k (free.0, free.1)) in omega arith
+  -- something lies in the row of a process of which a step stands
+  pub some_left : (p k at : ℕ) (kind : Kind) → nth history at ≡ Some (Step p k kind) → 0 < length (row_of lefts p)
+  some_left p k at kind there =
+      let count = rw (eq-eqb p p refl) at (counted_less p history at (Step p k kind) there) in let same = beside.steps p in omega arith
 
 module _ {B : Type 0} {low high : List (List (UndoData B))} {p : ℕ} {left : UndoData B} (put : IsPutOn p low left high) where
   other_nth : (xs : List (UndoData B)) (k : ℕ) → k ≢ length xs + 1 → nth (xs ++ left ∷ []) k ≡ nth xs k
@@ -120,103 +105,69 @@ module _ {B : Type 0} {low high : List (List (UndoData B))} {p : ℕ} {left : Un
   top_left : (k : ℕ) (kind : Kind) → k ≡ length (row_of low p) + 1 → undo_data_of high (Step p k kind) ≡ left
   top_left k kind last = ap (λ o. unwrap_or o nothing) (put_joins put k last)
 
-  low_length : (q : ℕ) → q ≢ p → length (row_of high q) ≡ length (row_of low q)
-  low_length q other = ap length (put.others q other)
-
-  high_length : length (row_of high p) ≡ length (row_of low p) + 1
-  high_length = ap length put.more ∙ length-append (row_of low p) (left ∷ [])
+  longer : (q : ℕ) → length (row_of high q) ≡ length (row_of low q) + one_if (nat_eq p q)
+  longer q = grind (arith, common_steps, gets)
 
   -- a step more, which is the next of its process
-  module _ {history : List Event} {k : ℕ} (kind : Kind) (beside : AreBeside low history) (next : IsNextStep history p k) where
-    next_left : k ≡ length (row_of low p) + 1
-    next_left = next_is (beside.steps p) next
-
-    new_step : (it : Event) → StandsIn history it → (other : Kind) → it ≢ Step p k other
-    new_step it h other e = next.new (other, rw (← e) h)
-
+  module _ {history : List Event} (k : ℕ) (kind : Kind) (beside : AreBeside low history) where
     pub beside_more : AreBeside high (history ++ Step p k kind ∷ [])
-    beside_more = record { processes = put.as_many ∙ beside.processes; steps = λ q. ⊎_elim (own q) (other q) (cases_eq q p) }
-      where
-        own : (q : ℕ) → q ≡ p → AreUpTo (HasStep (history ++ Step p k kind ∷ []) q) (length (row_of high q))
-        own q e =
-            rw (e, high_length)
-            (one_number_more (beside.steps p) (λ l. (
-              λ h. ⊎_elim (λ old. inl old) (λ it. let f = it.1 in let l_is : k ≡ l = (cc) in inr (omega (arith, next_left)))
-                  (had_or_is history (Step p k kind) p l h),
-              λ h. ⊎_elim (still_has history (Step p k kind) p l) (λ last. let l_is : l ≡ k = omega (arith, next_left) in rw l_is (
-                kind,
-                has_stands (history ++ Step p k kind ∷ []) (Step p k kind) (has_right history (Step p k kind ∷ []) (Step p k kind) (inl refl)),
-              )) h,
-            )))
+    beside_more =
+        record {
+          processes = put.as_many ∙ beside.processes;
+          steps = λ q. let same = beside.steps q in let more = longer q in let count = counted_more q history (Step p k kind) in omega arith;
+        }
 
-        other : (q : ℕ) → q ≢ p → AreUpTo (HasStep (history ++ Step p k kind ∷ []) q) (length (row_of high q))
-        other q apart =
-            rw (low_length q apart)
-            (same_numbers (beside.steps q) (λ l. (
-              λ h. ⊎_elim (λ old. old) (λ it. let f = it.1 in let e : q ≡ p = (cc) in absurd (apart e)) (had_or_is history (Step p k kind) q l h),
-              still_has history (Step p k kind) q l,
-            )))
-
-    pub step_recorded : recorded_with high (history ++ Step p k kind ∷ []) ≡ recorded_with low history ++ recorded_of (Step p k kind) left ∷ []
-    step_recorded =
+    pub step_recorded : AreNumbered p history → IsEndOf history p (length (steps_by p history)) → IsNextStep history p k
+        → recorded_with high (history ++ Step p k kind ∷ []) ≡ recorded_with low history ++ recorded_of (Step p k kind) left ∷ []
+    step_recorded numbered end next =
+        let next_left : k ≡ length (row_of low p) + 1 = next_counted history numbered end next ∙ ap (λ n. n + 1) (sym (beside.steps p)) in
         map-append _ history (Step p k kind ∷ [])
         ∙ ap₂ (λ old l. old ++ recorded_of (Step p k kind) l ∷ [])
-        (same_recorded low high history (λ it h. left_otherwise k next_left it (new_step it (has_stands history it h))))
+        (same_recorded low high history (λ it h. left_otherwise k next_left it (new_step it h)))
         (top_left k kind next_left)
+      where
+        new_step : (it : Event) → Has history it → (other : Kind) → it ≢ Step p k other
+        new_step it h other e = let found = has_at history it h in next.new (other, rw (← e) (suc found.0, found.1))
 
   -- the last step of a process less
-  module _ {history : List Event} (new : List Event) (k : ℕ) (kind : Kind) (beside : AreBeside high history)
+  module _ {history new : List Event} {k : ℕ} (kind : Kind) (beside : AreBeside high history)
       (free : IsFreeAlone history (named.Step (record { p = p; k = k })))
-      (taken : IsTakenOut history (named.Step (record { p = p; k = k })) (Step p k kind) new)
-      (was_last : IsEndOf history p k) (last : IsEndOf new p (k - 1)) where
+      (taken : IsTakenOut history (named.Step (record { p = p; k = k })) (Step p k kind) new) where
     there : nth history free.0 ≡ Some (Step p k kind)
     there = (taken free.0 free.1).0
 
-    last_left : k ≡ length (row_of low p) + 1
-    last_left =
-        let one : 1 ≤ length (row_of high p) = (let h = high_length in omega arith) in
-        let w = (beside.steps p).within k (kind, (free.0, there)) in
-        let low' = was_last (length (row_of high p)) ((beside.steps p).each (length (row_of high p)) one (omega arith)) in
-        let h = high_length in omega arith
-
-    gone : (it : Event) → StandsIn new it → (other : Kind) → it ≢ Step p k other
-    gone it h other e = let w = last k (other, rw (← e) h) in let n = last_left in absurd (omega arith)
-
     pub beside_taken : AreBeside low new
-    beside_taken = record { processes = sym put.as_many ∙ beside.processes; steps = λ q. ⊎_elim (own q) (other q) (cases_eq q p) }
-      where
-        was : (q l : ℕ) → HasStep new q l → HasStep history q l
-        was q l h = had history free.0 (Step p k kind) there q l (rw (taken free.0 free.1).1 at h)
+    beside_taken =
+        rw (taken free.0 free.1).1 (record {
+          processes = sym put.as_many ∙ beside.processes;
+          steps = λ q. let same = beside.steps q in let more = longer q in let count = counted_less q history free.0 (Step p k kind) there in omega arith;
+        })
 
-        kept : (q l : ℕ) → ((q ≡ p) × (l ≡ k) → ⊥) → HasStep history q l → HasStep new q l
-        kept q l other h = rw (taken free.0 free.1).1 (keeps history free.0 (Step p k kind) there q l (λ x e. other ((cc), (cc))) h)
-
-        own : (q : ℕ) → q ≡ p → AreUpTo (HasStep new q) (length (row_of low q))
-        own q e =
-            rw e (record {
-              within = λ l h. let w = (beside.steps p).within l (was p l h) in (w.0, omega (arith, last l h, last_left));
-              each = λ l one few. kept p l (λ i. let n = last_left in absurd (omega arith)) ((beside.steps p).each l one (omega (arith, few, high_length)));
-            })
-
-        other : (q : ℕ) → q ≢ p → AreUpTo (HasStep new q) (length (row_of low q))
-        other q apart = rw (← low_length q apart) (same_numbers (beside.steps q) (λ l. (was q l, kept q l (λ i. absurd (apart i.0)))))
-
-    pub step_taken : IsRecordTakenOut (recorded_with high history)
+    pub step_taken : AreNumbered p history → IsEndOf history p (length (steps_by p history)) → IsEndOf history p k → IsEndOf new p (k - 1)
+        → IsRecordTakenOut (recorded_with high history)
         (named.Step (record { p = p; k = k })) (recorded_of (Step p k kind) left) (recorded_with low new)
-    step_taken at h =
+    step_taken numbered end was_last last at h =
         let out = taken at (rw (events_recorded high history) at h) in (
           nth_map _ history at (Step p k kind) out.0 ∙ ap (λ l. Some (recorded_of (Step p k kind) l)) (top_left k kind last_left),
-          sym (same_recorded low high new (λ it s. left_otherwise k last_left it (gone it (has_stands new it s)))) ∙ ap (recorded_with high) out.1
+          sym (same_recorded low high new (λ it s. left_otherwise k last_left it (gone it s))) ∙ ap (recorded_with high) out.1
               ∙ map-without _ history at,
         )
+      where
+        last_left : k ≡ length (row_of low p) + 1
+        last_left =
+            let same = beside.steps p in
+            let more = rw (eq-eqb p p refl) at (longer p) in
+            let number = last_number p history (length (steps_by p history)) k numbered refl end was_last (free.0, free.1) in omega arith
+
+        gone : (it : Event) → Has new it → (other : Kind) → it ≢ Step p k other
+        gone it h other e =
+            let found = has_at new it h in
+            let within = last k (other, rw (← e) (suc found.0, found.1)) in let number = last_left in absurd (omega arith)
 
 -- the loss of a copy less
-module _ {B : Type 0} (lefts : List (List (UndoData B))) (history new : List Event)
-    (copy : CopyName) (taken : IsTakenOut history (named.Lost copy) (Lost copy) new) where
-  pub loss_taken : IsRecordTakenOut (recorded_with lefts history) (named.Lost copy) (recorded_of (Lost copy) nothing) (recorded_with lefts new)
-  loss_taken at h =
-      let out = taken at (rw (events_recorded lefts history) at h) in
-      (nth_map _ history at (Lost copy) out.0, ap (recorded_with lefts) out.1 ∙ map-without _ history at)
-
-  pub beside_unlost : IsFreeAlone history (named.Lost copy) → AreBeside lefts history → AreBeside lefts new
-  beside_unlost free beside = let out = taken free.0 free.1 in rw out.1 (beside_less beside copy free.0 out.0)
+pub loss_taken : {B : Type 0} (lefts : List (List (UndoData B))) {history new : List Event} {copy : CopyName}
+    → IsTakenOut history (named.Lost copy) (Lost copy) new
+    → IsRecordTakenOut (recorded_with lefts history) (named.Lost copy) (recorded_of (Lost copy) nothing) (recorded_with lefts new)
+loss_taken lefts {history} {new} {copy} taken at h =
+    let out = taken at (rw (events_recorded lefts history) at h) in
+    (nth_map _ history at (Lost copy) out.0, ap (recorded_with lefts) out.1 ∙ map-without _ history at)

@@ -20,15 +20,13 @@ take_one_more [] j less = absurd (omega (arith, less))
 take_one_more (x ∷ xs) j less = (get_or (x ∷ xs) j x, take_more (x ∷ xs) j x less)
 
 -- how many of the first events of the list depend directly on the one at the position
-pub record Counts (events : List Event) (at : ℕ) (first : List Event) (count : ℕ) : Type 0 where
-  pub found : List Event
-  pub others : List Event
-  pub parted : IsParted (IsDirectCause depends events at) 1 first others found
-  pub number : count ≡ length found
+abbrev pub Counts : List Event → ℕ → List Event → ℕ → Type 0
+Counts events at first count =
+    (found : List Event) × (others : List Event) × IsParted (IsDirectCause depends events at) 1 first others found × (count ≡ length found)
 
 module _ (events : List Event) (at : ℕ) where
   pub none_counted : Counts events at [] 0
-  none_counted = record { found = []; others = []; parted = done; number = refl }
+  none_counted = ([], [], done, refl)
 
   -- one event more
   module _ (j count : ℕ) (less : j < length events) (so_far : Counts events at (take j events) count) where
@@ -42,24 +40,20 @@ module _ (events : List Event) (at : ℕ) where
     is = IsDirectCause depends events at
 
     pub one_counted : is (j + 1) → Counts events at (take (j + 1) events) (count + 1)
-    one_counted direct =
-        let number = so_far.number in
-        let longer = length_push so_far.found next.0 in
-        record {
-          found = so_far.found ++ next.0 ∷ [];
-          others = so_far.others;
-          parted = rw next.1 (more_in is 1 (take j events) so_far.others so_far.found next.0 so_far.parted (subst is place direct));
-          number = omega (arith, number, longer);
-        }
+    one_counted direct = (
+      so_far.0 ++ next.0 ∷ [],
+      so_far.1,
+      rw next.1 (more_in is 1 (take j events) so_far.1 so_far.0 next.0 so_far.2 (subst is place direct)),
+      omega (arith, so_far.3, length_push so_far.0 next.0),
+    )
 
     pub other_counted : (is (j + 1) → ⊥) → Counts events at (take (j + 1) events) count
-    other_counted not =
-        record {
-          found = so_far.found;
-          others = so_far.others ++ next.0 ∷ [];
-          parted = rw next.1 (more_out is 1 (take j events) so_far.others so_far.found next.0 so_far.parted (λ direct. not (subst is (sym place) direct)));
-          number = so_far.number;
-        }
+    other_counted not = (
+      so_far.0,
+      so_far.1 ++ next.0 ∷ [],
+      rw next.1 (more_out is 1 (take j events) so_far.1 so_far.0 next.0 so_far.2 (λ direct. not (subst is (sym place) direct))),
+      so_far.3,
+    )
 
 -- by name
 module _ (history : List Event) (name : StepId) (position : ℕ) (is : IsPositionOf history name position)

@@ -1,89 +1,79 @@
--- What numbers cut off, as it is gathered, and in the order of its marks.
+-- What numbers cut off, as it is gathered, and in the order of its marks: the whole history, or a step with its consequences.
 use Rattle.std.proofs.lemmas.Grind.{common_steps}
-use Rattle.std.proofs.Common.{◌≡◌, ◌≢◌, ℕ, suc, ◌<◌, ◌≤◌, Bool, cond, nat_eq, eqb-true, eq-eqb, List, [], ◌∷◌, Some, inl, inr, ⊎_elim, refl, sym}
-use Rattle.std.proofs.Common.{ap, ◌∙◌, arith, ◌-◌, Option, ◌⊎◌, length, set, length-set, None}
-use Rattle.std.specs.List.{sum_by}
+use Rattle.std.proofs.Common.{◌≡◌, ◌≢◌, ℕ, suc, ◌+◌, ◌<◌, ◌≤◌, ◌++◌, Bool, false, nat_eq, List, [], ◌∷◌, Some, inl, inr, ⊎_elim, refl, sym}
+use Rattle.std.proofs.Common.{ap, ◌∙◌, arith, ◌-◌, Option, ◌⊎◌, length, set, length-set, None, ◌↔◌, zero, slice_get}
 use Rattle.std.specs.Prelude.{IsPermutation, Result, Ok, Err, IfOk}
 use Rattle.std.specs.List.Sorted.{IsNonDecreasingBy}
-use Rattle.std.proofs.lemmas.Bool.{cases_eq, cases_lt}
-use Rattle.std.proofs.lemmas.List.Sums.{sum_by-cons}
-use Rattle.std.proofs.lemmas.List.Sorted.{Contains-permutation, IsPermutation-sym, sum_by-IsPermutation}
-use Rattle.std.proofs.lemmas.Option.{slice_get_within, get_or_from_slice_get, slice_get-get_or, gets}
+use Rattle.std.proofs.lemmas.Bool.{cases_lt, ne_eqb, eqb-false}
+use Rattle.std.proofs.lemmas.Map.Keys.{IsDistinct-IsPermutation, IsDistinct-from_apart, apart_from_distinct}
+use Rattle.std.specs.List.{IsDistinct}
+use Rattle.std.proofs.lemmas.Bool.Decides.{nat_tests}
+use Rattle.std.proofs.lemmas.List.Sorted.{Contains-permutation, IsPermutation-sym}
+use Rattle.std.proofs.lemmas.Option.{slice_get_within, get_or_from_slice_get, slice_get-get_or, gets, none-some, same_Some}
 use Rattle.cdb_standing.specs.InOrder.{Marked, Has, IsPairwise, IsRising, events_of}
-use Rattle.cdb_standing.proofs.Ordered.{has_at, at_has, has_left, has_right, has_cases, pairwise_append, pairwise_each, pairwise_map}
+use Rattle.cdb_standing.specs.declared.tables.Tables.{Tables}
+use Rattle.cdb_standing.proofs.Ordered.{has_at, at_has, has_left, has_right, has_cases, pairwise_append, pairwise_at, pairwise_each, pairwise_map, same_list}
 use Rattle.std.specs.Option.{option_map_or}
 use Rattle.cdb_base.specs.Positions.{nth}
 use Rattle.cdb_base.specs.declared.event.Event.{Event}
-use Rattle.cdb_base.specs.declared.event.Event.TheVariants as event
 use Rattle.cdb_base.specs.declared.event.Kind.{Kind}
 use Rattle.cdb_base.specs.declared.event.Kind.TheVariants.{Send}
 use Rattle.cdb_base.specs.declared.name.CopyName.{CopyName}
-use Rattle.cdb_standing.specs.Cuts.{cut_of, IsCut}
-use Rattle.cdb_standing.specs.Gathered.{losses_of, of_step, IsOf, HasOtherEvent, AreGathered, AreInOrder, NoneIsLeft, IsGathered}
+use Rattle.cdb_standing.specs.Cuts.{cut_of, IsCut, AreConsequencesCut}
+use Rattle.cdb_standing.specs.Gathered.{losses_of, of_step, IsOf, HasOtherEvent, AreGathered, AreInOrder, IsNext, NoneIsLeft, IsGathered}
 use Rattle.cdb_standing.specs.Pasts.{room}
-use Rattle.cdb_standing.specs.Tables.{row_of, copy_named, loss_at, losses_to, entry_of, IsEntry, IsCopy, Stands, IsSound}
+use Rattle.cdb_standing.specs.Tables.{IsMessage, steps_of, sent_of, row_of, copy_named, loss_at, losses_to, entry_of, IsEntry, IsCopy, Stands, IsSound}
+use Rattle.cdb_standing.specs.Tables.{history_in, standing}
 use Rattle.cdb_standing.specs.declared.tables.Copied.{Copied}
 use Rattle.cdb_standing.specs.declared.tables.Copied.TheVariants.{Lost}
-use Rattle.cdb_standing.specs.declared.tables.Entry.{Entry}
+use Rattle.cdb_standing.specs.declared.order.Next.{Next}
 use Rattle.cdb_standing.specs.declared.tables.Sent.{Sent}
 use Rattle.cdb_standing.proofs.CutsFound.{cut_at, cut_set, set_cases, sum_falls}
-use Rattle.cdb_standing.proofs.Joined.{marked}
+use Rattle.cdb_standing.proofs.Listed.{marked, standing_rising, standing_only, standing_has}
 use Rattle.cdb_standing.proofs.Links.{same_entry, process_within}
 use Rattle.cdb_standing.proofs.Rows.{nth_within, each_one_only, each_one_has}
+use Rattle.cdb_base.specs.Event.{event_name}
+use Rattle.cdb_base.specs.declared.name.StepId.{StepId}
+use Rattle.cdb_causal.specs.Causality.{IsFree, IsConsequence, direct, onward}
+use Rattle.cdb_causal.specs.Dependence.{depends}
+use Rattle.cdb_causal.specs.Names.{IsNamedAt}
+use Rattle.cdb_causal.specs.Rollback.{IsParted, done, kept, gone, IsRolledBack, rolled_back}
+use Rattle.cdb_causal.proofs.Chains.{parted, rolled_back_split, consequences_parted}
+use Rattle.cdb_causal.proofs.Lists.{nth_map}
+use Rattle.cdb_causal.proofs.Parted.{none_found}
+use Rattle.cdb_standing.specs.Kept.{AreKept}
+use Rattle.cdb_standing.specs.Moves.{IsStandingName}
+use Rattle.cdb_standing.proofs.LinksFound.{first_of_loss}
+use Rattle.cdb_base.specs.declared.event.Event.TheVariants as event
+use Rattle.cdb_base.specs.declared.name.StepId.TheVariants as named
 
 -- ---- events with marks of their own, put in order
 
--- ---- how many have a mark
-
-abbrev pub one_if : Bool → ℕ
-one_if b = cond b 1 0
-
-abbrev pub is_at : ℕ → Marked → ℕ
-is_at m x = one_if (nat_eq x.mark m)
-
--- no mark is there twice
-abbrev pub IsOnce : List Marked → Type 0
-IsOnce xs = (m : ℕ) → sum_by (is_at m) xs ≤ 1
-
-abbrev pub HasOtherMark : Marked → Marked → Type 0
+abbrev HasOtherMark : Marked → Marked → Type 0
 HasOtherMark x y = x.mark ≢ y.mark
 
-pub sum_none : {A : Type 0} (w : A → ℕ) (xs : List A) → ((x : A) → Has xs x → w x ≡ 0) → sum_by w xs ≡ 0
-sum_none w [] none = refl
-sum_none w (x ∷ xs) none =
-    let here = none x (inl refl) in let rest = sum_none w xs (λ y h. none y (inr h)) in let both = sum_by-cons w x xs in omega arith
+abbrev same_mark : Marked → Marked → Bool
+same_mark x y = nat_eq x.mark y.mark
 
-some_at_mark : (m : ℕ) (xs : List Marked) (y : Marked) → Has xs y → y.mark ≡ m → 1 ≤ sum_by (is_at m) xs
-some_at_mark m [] y h e = absurd h
-some_at_mark m (x ∷ xs) y h e = let again = some_at_mark m xs y in let both = sum_by-cons (is_at m) x xs in grind (arith, common_steps, eq-eqb, again)
+apart_distinct : (xs : List Marked) → IsPairwise HasOtherMark xs → IsDistinct same_mark xs
+apart_distinct xs apart = IsDistinct-from_apart same_mark xs (λ i j d less within.
+    ne_eqb _ _ (pairwise_at HasOtherMark xs i j _ _ apart (slice_get-get_or xs i d (omega arith)) (slice_get-get_or xs j d within) less))
 
-pub apart_once : (xs : List Marked) → IsPairwise HasOtherMark xs → IsOnce xs
-apart_once [] apart m = omega arith
-apart_once (x ∷ xs) apart m =
-    let again = apart_once xs apart.1 m in
-    let both = sum_by-cons (is_at m) x xs in
-    let none : x.mark ≡ m → sum_by (is_at m) xs ≡ 0 = λ e. sum_none (is_at m) xs (λ y h. let other = apart.0 y h in grind (arith, common_steps, eqb-true)) in
-    grind (arith, common_steps, eqb-true)
-
--- ---- sorted, they rise
-
-pub sorted_rises : (xs : List Marked) → IsNonDecreasingBy (λ (x : Marked). x.mark) xs → IsOnce xs → IsRising xs
-sorted_rises [] sorted once = tt
-sorted_rises (x ∷ xs) sorted once = (
-  after,
-  sorted_rises xs (λ i j d le less. sorted (suc i) (suc j) d (omega arith) (omega arith))
-      (λ m. let both = sum_by-cons (is_at m) x xs in let all = once m in omega arith),
-)
+-- sorted, they rise
+sorted_rises : (xs : List Marked) → IsNonDecreasingBy (λ (x : Marked). x.mark) xs → IsDistinct same_mark xs → IsRising xs
+unfolding IsDistinct
+sorted_rises [] sorted apart = tt
+sorted_rises (x ∷ xs) sorted apart =
+    (after, sorted_rises xs (λ i j d le less. sorted (suc i) (suc j) d (omega arith) (omega arith)) apart.1)
   where
     after : (y : Marked) → Has xs y → x.mark < y.mark
     after y h =
         let found = has_at xs y h in
         let within = slice_get_within xs found.0 y found.1 in
         let up : x.mark ≤ y.mark = rw (get_or_from_slice_get xs found.0 y x found.1) at (sorted 0 (suc found.0) x (omega arith) (omega arith)) in
-        let two = sum_by-cons (is_at x.mark) x xs in
-        let one : is_at x.mark x ≡ 1 = ap one_if (eq-eqb x.mark x.mark refl) in
-        let all = once x.mark in
-        ⊎_elim (λ e. let more = some_at_mark x.mark xs y h (sym e) in absurd (omega arith)) (λ no. omega (arith, up, no)) (cases_eq x.mark y.mark)
+        let other : nat_eq x.mark y.mark ≡ false =
+        rw (get_or_from_slice_get xs found.0 y x found.1) at (apart_from_distinct same_mark (x ∷ xs) 0 (suc found.0) x apart (omega arith) (omega arith)) in
+        let ne = eqb-false x.mark y.mark other in omega arith
 
 has_contains : (xs ys : List Marked) (x : Marked) → IsPermutation xs ys → Has xs x → Has ys x
 has_contains xs ys x same h =
@@ -98,8 +88,8 @@ module _ (xs ys : List Marked) (same : IsPermutation xs ys) where
   pub moved_only : (x : Marked) → Has ys x → Has xs x
   moved_only x h = has_contains ys xs x (IsPermutation-sym xs ys same) h
 
-  pub moved_once : IsOnce xs → IsOnce ys
-  moved_once once m = let all = once m in let e = sum_by-IsPermutation (is_at m) xs ys same in omega arith
+  moved_distinct : IsDistinct same_mark xs → IsDistinct same_mark ys
+  moved_distinct = IsDistinct-IsPermutation same_mark (λ x y. grind (arith, nat_tests)) xs ys same
 
 -- ---- what is gathered
 
@@ -108,20 +98,20 @@ is_loss : (s m to : ℕ) (copied : Copied) (x : Marked) → Has (loss_at s m to 
     → (mark : ℕ) × (copied ≡ Lost mark) × (x ≡ marked mark (event.Lost (copy_named s m to)))
 is_loss s m to copied x h = grind arith
 
-module _ (sent : List (List Sent)) (p : ℕ) where
+module _ (t : Tables) (p : ℕ) where
   -- the loss of a copy of what a step of that kind sent
   record IsLossOf (kind : Kind) (x : Marked) : Type 0 where
     m : ℕ
     to : ℕ
     mark : ℕ
     sends : kind ≡ Send m
-    copy : IsCopy sent p m to (Lost mark)
+    copy : IsCopy (sent_of t) p m to (Lost mark)
     is : x ≡ marked mark (event.Lost (copy_named p m to))
 
-  losses_only : (kind : Kind) (x : Marked) → Has (losses_of sent p kind) x → IsLossOf kind x
-  losses_only (Send m) x h = by (nth (row_of sent p) m) refl h
+  losses_only : (kind : Kind) (x : Marked) → Has (losses_of t p kind) x → IsLossOf kind x
+  losses_only (Send m) x h = by (nth (row_of (sent_of t) p) m) refl h
     where
-      by : (o : Option Sent) → nth (row_of sent p) m ≡ o → Has (option_map_or (losses_to p m) o []) x → IsLossOf (Send m) x
+      by : (o : Option Sent) → nth (row_of (sent_of t) p) m ≡ o → Has (option_map_or (losses_to p m) o []) x → IsLossOf (Send m) x
       by None e h = absurd h
       by (Some it) e h =
           let found = each_one_only (loss_at p m) it.copies x h in
@@ -136,8 +126,8 @@ module _ (sent : List (List Sent)) (p : ℕ) where
           }
   losses_only _ x h = absurd h
 
-  losses_apart : (kind : Kind) → IsPairwise HasOtherEvent (losses_of sent p kind)
-  losses_apart (Send m) = by (nth (row_of sent p) m)
+  losses_apart : (kind : Kind) → IsPairwise HasOtherEvent (losses_of t p kind)
+  losses_apart (Send m) = by (nth (row_of (sent_of t) p) m)
     where
       single : (to : ℕ) (copied : Copied) → IsPairwise HasOtherEvent (loss_at p m to copied)
       single to copied = grind arith
@@ -153,197 +143,308 @@ module _ (sent : List (List Sent)) (p : ℕ) where
           let number : suc i ≡ suc j = ap (λ (c : CopyName). c.to) copies in absurd (omega arith))
   losses_apart _ = tt
 
--- of each process, what lies from the first number on and below the second has been gathered
-pub record IsGathering (steps : List (List Entry)) (sent : List (List Sent)) (cuts from : List ℕ) (found : List Marked) : Type 0 where
-  pub only : (x : Marked) → Has found x
-      → (p : ℕ) × (k : ℕ) × IsOf sent p k x.event × Stands steps sent x.mark x.event × (cut_of cuts p ≤ k) × (k < cut_of from p)
-  pub all : (p k : ℕ) (x : Marked) → IsOf sent p k x.event → Stands steps sent x.mark x.event → cut_of cuts p ≤ k → k < cut_of from p → Has found x
+-- what the first numbers cut off has been gathered, but for what the others still cut off
+pub record IsGathering (t : Tables) (cuts from : List ℕ) (found : List Marked) : Type 0 where
+  pub same : (x : Marked) → Has found x ↔ (Stands t x.mark x.event × IsCut t cuts x.event × (IsCut t from x.event → ⊥))
   pub apart : IsPairwise HasOtherEvent found
   pub higher : (p : ℕ) → cut_of cuts p ≤ cut_of from p
   pub long : length from ≡ 9
 
-module _ {next : ℕ} {steps : List (List Entry)} {sent : List (List Sent)} (sound : IsSound next steps sent) where
+module _ {t : Tables} (sound : IsSound t) where
   -- ---- of what step an event is
 
-  abbrev HasOrigin : Event → Type 0
-  HasOrigin it = (p : ℕ) × (k : ℕ) × IsOf sent p k it
+  same_message : {s m k l : ℕ} → IsMessage (sent_of t) s m k → IsMessage (sent_of t) s m l → k ≡ l
+  same_message one other = grind (arith, common_steps, gets)
 
-  pub origin : (mark : ℕ) (it : Event) → Stands steps sent mark it → HasOrigin it
-  origin mark (event.Step p k kind) at = (p, k, (refl, refl))
-  origin mark (event.Lost copy) at = ((copy.msg).s, (at.it).k, (refl, record { it = at.it; was_sent = at.was_sent; by = refl }))
-
-  one_origin : (it : Event) (one other : HasOrigin it) → (one.0 ≡ other.0) × (one.1 ≡ other.1)
-  one_origin (event.Step r j kind) (p, k, one) (q, l, other) = (sym one.0 ∙ other.0, sym one.1 ∙ other.1)
-  one_origin (event.Lost copy) (p, k, one) (q, l, other) = grind (arith, common_steps, gets)
-
-  same_origin : (a b : Event) → a ≡ b → (one : HasOrigin a) (other : HasOrigin b) → (one.0 ≡ other.0) × (one.1 ≡ other.1)
-  same_origin a b e one other = one_origin b (one.0, one.1, rw e at one.2) other
-
-  its_step : (p k : ℕ) (x : Marked) → IsOf sent p k x.event → Stands steps sent x.mark x.event → (a : ℕ) × (kind : Kind) × IsEntry steps p k a kind
-  its_step p k x of at = by x.mark x.event of at
-    where
-      by : (mark : ℕ) (it : Event) → IsOf sent p k it → Stands steps sent mark it → (a : ℕ) × (kind : Kind) × IsEntry steps p k a kind
-      by mark (event.Step q l kind) of at = (mark, kind, rw (of.0, of.1) at at)
-      by mark (event.Lost copy) of at = let send = sound.sent_is p (copy.msg).m k of.1 in (send.0, Send (copy.msg).m, send.1)
+  pub origin : (mark : ℕ) (it : Event) → Stands t mark it → (p : ℕ) × (k : ℕ) × (a : ℕ) × (kind : Kind) × IsEntry t p k a kind × IsOf t p k it
+  origin mark (event.Step p k kind) at = (p, k, mark, kind, at, (refl, refl))
+  origin mark (event.Lost copy) at =
+      let message : IsMessage (sent_of t) (copy.msg).s (copy.msg).m (at.it).k = record { it = at.it; was_sent = at.was_sent; by = refl } in
+      let send = sound.sent_is (copy.msg).s (copy.msg).m (at.it).k message in
+      ((copy.msg).s, (at.it).k, send.0, Send (copy.msg).m, send.1, (refl, message))
 
   -- it is cut off where that step is
-  pub cut_in : (cuts : List ℕ) (it : Event) (o : HasOrigin it) → cut_of cuts o.0 ≤ o.1 → IsCut sent cuts it
-  cut_in cuts (event.Step q l kind) (p, k, of) cut = rw (of.0, of.1) cut
-  cut_in cuts (event.Lost copy) (p, k, of) cut = (k, rw of.0 of.1, rw of.0 cut)
-
-  in_cut : (cuts : List ℕ) (it : Event) (o : HasOrigin it) → IsCut sent cuts it → cut_of cuts o.0 ≤ o.1
-  in_cut cuts (event.Step q l kind) (p, k, of) cut = rw (← of.0, ← of.1) cut
-  in_cut cuts (event.Lost copy) (p, k, of) cut =
-      let same = one_origin (event.Lost copy) (p, k, of) ((copy.msg).s, cut.0, (refl, cut.1)) in rw (same.0, same.1) cut.2
+  pub of_cut : (cuts : List ℕ) (p k : ℕ) (it : Event) → IsOf t p k it → IsCut t cuts it ↔ (cut_of cuts p ≤ k)
+  of_cut cuts p k (event.Step q l kind) of = rw (of.0, of.1) ((λ cut. cut), (λ cut. cut))
+  of_cut cuts p k (event.Lost copy) of = (
+    λ cut. rw (same_message of.1 (rw of.0 at cut.1)) (rw of.0 at cut.2),
+    λ cut. (k, rw of.0 of.1, rw of.0 cut),
+  )
 
   -- ---- what a step gives
 
-  module _ (p k a : ℕ) (kind : Kind) (at : IsEntry steps p k a kind) where
-    abbrev gone : List Marked
-    gone = of_step sent p k (entry_of a kind)
+  module _ (p k a : ℕ) (kind : Kind) (at : IsEntry t p k a kind) where
+    abbrev given : List Marked
+    given = of_step t p k (entry_of a kind)
 
-    step_only : (x : Marked) → Has gone x → Stands steps sent x.mark x.event × IsOf sent p k x.event
+    step_only : (x : Marked) → Has given x → Stands t x.mark x.event × IsOf t p k x.event
     step_only x (inl e) = rw (← e) (at, (refl, refl))
     step_only x (inr h) =
-        let lost = losses_only sent p kind x h in rw lost.is (lost.copy, (refl, sound.is_sent p lost.m k a (rw lost.sends at at)))
+        let lost = losses_only t p kind x h in rw lost.is (lost.copy, (refl, sound.is_sent p lost.m k a (rw lost.sends at at)))
 
-    step_has : (mark : ℕ) (it : Event) → Stands steps sent mark it → IsOf sent p k it → Has gone (marked mark it)
+    step_has : (mark : ℕ) (it : Event) → Stands t mark it → IsOf t p k it → Has given (marked mark it)
     step_has mark (event.Step q l other) there of =
-        let e = same_entry steps p k (rw (of.0, of.1) at there) at in inl (rw (of.0, of.1, e.0, e.1) refl)
+        let e = same_entry t p k (rw (of.0, of.1) at there) at in inl (rw (of.0, of.1, e.0, e.1) refl)
     step_has mark (event.Lost copy) there of =
         let send = sound.sent_is p (copy.msg).m k of.1 in
-        let kind_is : Send (copy.msg).m ≡ kind = (same_entry steps p k send.1 at).1 in
-        let sent_there : nth (row_of sent p) (copy.msg).m ≡ Some there.it = rw of.0 at there.was_sent in
+        let kind_is : Send (copy.msg).m ≡ kind = (same_entry t p k send.1 at).1 in
+        let sent_there : nth (row_of (sent_of t) p) (copy.msg).m ≡ Some there.it = rw of.0 at there.was_sent in
         inr (rw (← kind_is, sent_there)
         (each_one_has (loss_at p (copy.msg).m) (there.it).copies (marked mark (event.Lost copy)) copy.to (Lost mark) there.became (inl (rw (← of.0) refl))))
 
-    step_apart : IsPairwise HasOtherEvent gone
-    step_apart = (other, losses_apart sent p kind)
+    step_apart : IsPairwise HasOtherEvent given
+    step_apart = (other, losses_apart t p kind)
       where
-        other : (x : Marked) → Has (losses_of sent p kind) x → HasOtherEvent (marked a (event.Step p k kind)) x
-        other x h same = let lost = losses_only sent p kind x h in let is = lost.is in absurd (cc)
+        other : (x : Marked) → Has (losses_of t p kind) x → HasOtherEvent (marked a (event.Step p k kind)) x
+        other x h same = let lost = losses_only t p kind x h in let is = lost.is in absurd (cc)
 
   -- ---- the steps of all processes, one after another
 
-  module _ {cuts from : List ℕ} {found new : List Marked} {i n : ℕ} (nine : i < 9) (was : IsGathering steps sent cuts from found)
-      (it : IsGathered steps sent from i found new n) where
-    abbrev its : ℕ
-    its = suc (cut_of from (suc i) - 1)
+  module _ {cuts from : List ℕ} {found new : List Marked} {next : Next}
+      (was : IsGathering t cuts from found) (is : IsNext t from next) (it : IsGathered t next found new) where
+    abbrev p : ℕ
+    p = next.i + 1
 
-    here : IsEntry steps (suc i) its (it.entry).mark (it.entry).kind
-    here = it.at
+    abbrev after : List ℕ
+    after = set from next.i (next.k + 1)
 
-    is_set : cut_of (set from i n) (suc i) ≡ n
-    is_set = cut_set from i n (let long = was.long in omega arith)
+    abbrev its : List Marked
+    its = of_step t p next.k (entry_of next.mark it.kind)
 
-    set_higher : (q : ℕ) → cut_of from q ≤ cut_of (set from i n) q
-    set_higher q =
-        elim (set_cases from i n q (let long = was.long in omega arith)) [
-          | inl now ↦ (let new = now.1 in let number = it.number in let e : cut_of from q ≡ cut_of from (suc i) = ap (cut_of from) now.0 in omega arith)
-          | inr same ↦ omega arith
-        ]
+    its_only : (x : Marked) → Has its x → Stands t x.mark x.event × IsOf t p next.k x.event
+    its_only = step_only p next.k next.mark it.kind it.at
 
-    pub gathering_goes_on : IsGathering steps sent cuts (set from i n) new
-    gathering_goes_on = record {
-      only = λ x h. only x (has_cases found (gone (suc i) its (it.entry).mark (it.entry).kind here) x (rw it.more at h));
-      all = all;
-      apart = rw it.more (pairwise_append HasOtherEvent found (of_step sent (suc i) its it.entry) was.apart
-          (step_apart (suc i) its (it.entry).mark (it.entry).kind here) across);
-      higher = λ p. let more = set_higher p in let low = was.higher p in omega arith;
-      long = length-set from i n ∙ was.long;
-    }
+    within : next.i < length from
+    within = let few = is.few in let long = was.long in omega arith
+
+    moved : (q : ℕ) → ((q ≡ p) × (cut_of after q ≡ next.k + 1)) ⊎ (cut_of after q ≡ cut_of from q)
+    moved q = ⊎_elim (λ here. inl (omega arith, here.1)) (λ same. inr same) (set_cases from next.i (next.k + 1) q within)
+
+    further : (q : ℕ) → cut_of from q ≤ cut_of after q
+    further q =
+        ⊎_elim (λ here. let e : cut_of from q ≡ cut_of from p = ap (cut_of from) here.0 in let number = is.number in omega arith)
+        (λ same. omega arith) (moved q)
+
+    behind : cut_of after p ≡ next.k + 1
+    behind = let e : p ≡ suc next.i = omega arith in rw e (cut_set from next.i (next.k + 1) within)
+
+    pub gathering_goes_on : IsGathering t cuts after new
+    gathering_goes_on = rw it.more (record {
+      same = λ x. ((λ h. ⊎_elim (old x) (of_next x) (has_cases found its x h)), back x);
+      apart = pairwise_append HasOtherEvent found its was.apart (step_apart p next.k next.mark it.kind it.at) across;
+      higher = λ q. let more = further q in let low = was.higher q in omega arith;
+      long = length-set from next.i (next.k + 1) ∙ was.long;
+    })
       where
-        only : (x : Marked) → Has found x ⊎ Has (of_step sent (suc i) its it.entry) x
-            → (p : ℕ) × (k : ℕ) × IsOf sent p k x.event × Stands steps sent x.mark x.event × (cut_of cuts p ≤ k) × (k < cut_of (set from i n) p)
-        only x (inl old) =
-            let o = was.only x old in (o.0, o.1, o.2, o.3, o.4, (let less = o.5 in let more = set_higher o.0 in omega arith))
-        only x (inr h) =
-            let o = step_only (suc i) its (it.entry).mark (it.entry).kind here x h in
-            let low = was.higher (suc i) in
-            (suc i, its, o.1, o.0, omega arith, (let set_is = is_set in let number = it.number in omega arith))
+        old : (x : Marked) → Has found x → Stands t x.mark x.event × IsCut t cuts x.event × (IsCut t after x.event → ⊥)
+        old x h =
+            let s = (was.same x).0 h in
+            let o = origin x.mark x.event s.0 in
+            (s.0, s.1, λ cut. s.2 ((of_cut from _ _ x.event o.5).1 (let low = (of_cut after _ _ x.event o.5).0 cut in let more = further o.0 in omega arith)))
 
-        all : (p k : ℕ) (x : Marked) → IsOf sent p k x.event → Stands steps sent x.mark x.event → cut_of cuts p ≤ k → k < cut_of (set from i n) p → Has new x
-        all p k x of at low high =
-            rw it.more
-            (elim (cases_lt k (cut_of from p)) [
-              | inl less ↦ has_left found (of_step sent (suc i) its it.entry) x (was.all p k x of at low less)
-              | inr past ↦ has_right found (of_step sent (suc i) its it.entry) x
-                  (elim (set_cases from i n p (let long = was.long in omega arith)) [
-                    | inl now ↦ (let step = its_step p k x of at in
-                        let within = nth_within (row_of steps p) k (entry_of step.0 step.1) step.2 in
-                        let e : cut_of from p ≡ cut_of from (suc i) = ap (cut_of from) now.0 in
-                        let new = now.1 in
-                        let number = it.number in
-                        let k_is : k ≡ its = omega arith in
-                        step_has (suc i) its (it.entry).mark (it.entry).kind here x.mark x.event at (rw (now.0, k_is) at of))
-                    | inr same ↦ absurd (omega arith)
-                  ])
-            ])
+        of_next : (x : Marked) → Has its x → Stands t x.mark x.event × IsCut t cuts x.event × (IsCut t after x.event → ⊥)
+        of_next x h =
+            let o = its_only x h in (
+              o.0,
+              (of_cut cuts _ _ x.event o.1).1 (let low = was.higher p in let number = is.number in omega arith),
+              λ cut. let low = (of_cut after _ _ x.event o.1).0 cut in let end = behind in absurd (omega arith),
+            )
 
-        across : (x y : Marked) → Has found x → Has (of_step sent (suc i) its it.entry) y → HasOtherEvent x y
+        back : (x : Marked) → Stands t x.mark x.event × IsCut t cuts x.event × (IsCut t after x.event → ⊥) → Has (found ++ its) x
+        back x s =
+            let o = origin x.mark x.event s.0 in
+            let from_one = nth_within (row_of (steps_of t) o.0) o.1 (entry_of o.2 o.3) o.4 in
+            elim (cases_lt o.1 (cut_of from o.0)) [
+              | inl less ↦ has_left found its x ((was.same x).1
+                  (s.0, s.1, λ cut. let low = (of_cut from _ _ x.event o.5).0 cut in absurd (omega arith)))
+              | inr past ↦ has_right found its x (elim (moved o.0) [
+                | inl here ↦ (elim (cases_lt o.1 (next.k + 1)) [
+                  | inl low ↦ (let e : cut_of from o.0 ≡ cut_of from p = ap (cut_of from) here.0 in
+                      let number = is.number in
+                      let k_is : o.1 ≡ next.k = omega arith in
+                      step_has p next.k next.mark it.kind it.at x.mark x.event s.0 (rw (here.0, k_is) at o.5))
+                  | inr high ↦ absurd (s.2 ((of_cut after _ _ x.event o.5).1 (let end = here.1 in omega arith)))
+                ])
+                | inr same ↦ absurd (s.2 ((of_cut after _ _ x.event o.5).1 (omega arith)))
+              ])
+            ]
+
+        across : (x y : Marked) → Has found x → Has its y → HasOtherEvent x y
         across x y h_x h_y same =
-            let one = was.only x h_x in
-            let other = step_only (suc i) its (it.entry).mark (it.entry).kind here y h_y in
-            let is = same_origin x.event y.event same (one.0, one.1, one.2) (suc i, its, other.1) in
-            let less = one.5 in
-            let e : cut_of from one.0 ≡ cut_of from (suc i) = ap (cut_of from) is.0 in
-            let f = is.1 in
-            absurd (omega arith)
+            let of = (its_only y h_y).1 in
+            ((was.same x).0 h_x).2 (rw same ((of_cut from _ _ y.event of).1 (let number = is.number in omega arith)))
 
-    pub less_room : room (set from i n) < room from
+    pub less_room : room after < room from
     less_room =
-        let few = sound.few (suc i) in
-        let within = nth_within (row_of steps (suc i)) its it.entry it.at in
-        let number = it.number in
-        let is = cut_at from i in
-        let long = was.long in
-        sum_falls (λ (m : ℕ). 65536 - m) from i n (omega arith) (omega arith)
+        let few = sound.few p in
+        let bounds = nth_within (row_of (steps_of t) p) next.k (entry_of next.mark it.kind) it.at in
+        let number = is.number in
+        let inside = within in
+        let e : cut_of from (suc next.i) ≡ cut_of from p = (let f : suc next.i ≡ p = omega arith in ap (cut_of from) f) in
+        let here = cut_at from next.i in
+        sum_falls (λ (m : ℕ). 65536 - m) from next.i (next.k + 1) (omega arith) (omega arith)
 
-  pub gathering_begins : {cuts : List ℕ} {found : List Marked} → length cuts ≡ 9 → found ≡ [] → IsGathering steps sent cuts cuts found
+  pub gathering_begins : {cuts : List ℕ} {found : List Marked} → length cuts ≡ 9 → found ≡ [] → IsGathering t cuts cuts found
   gathering_begins long none =
-      rw none
-      (record { only = λ x h. absurd h; all = λ p k x of at low high. absurd (omega arith); apart = tt; higher = λ p. omega arith; long = long })
+      rw none (record { same = λ x. ((λ h. absurd h), (λ s. absurd (s.2 s.1))); apart = tt; higher = λ p. omega arith; long = long })
 
   -- no step is left
-  pub gathering_ends : {cuts from : List ℕ} {found : List Marked} → NoneIsLeft steps from 0 9 → IsGathering steps sent cuts from found
-      → AreGathered cuts steps sent found
+  pub gathering_ends : {cuts from : List ℕ} {found : List Marked} → NoneIsLeft t from 0 9 → IsGathering t cuts from found
+      → AreGathered cuts t found
   gathering_ends {cuts} {from} none was = record {
-    same = λ x. (
-      (λ h. let o = was.only x h in (o.3, cut_in cuts x.event (o.0, o.1, o.2) o.4)),
-      (λ s. let o = origin x.mark x.event s.0 in
-          was.all o.0 o.1 x o.2 s.0 (in_cut cuts x.event o s.1) (below o.0 o.1 (its_step o.0 o.1 x o.2 s.0).2)),
-    );
+    same = λ x. ((λ h. let s = (was.same x).0 h in (s.0, s.1)), (λ s. (was.same x).1 (s.0, s.1, not_left x s.0)));
     apart = was.apart;
   }
     where
-      below : (p k : ℕ) {a : ℕ} {kind : Kind} → IsEntry steps p k a kind → k < cut_of from p
-      below p k {a} {kind} at =
-          elim (cases_lt k (cut_of from p)) [
-            | inl less ↦ less
-            | inr past ↦ (let process = process_within sound p k a kind at in
-                let within = nth_within (row_of steps p) k (entry_of a kind) at in
-                let e : p ≡ suc (p - 1) = omega arith in
-                let from_is : cut_of from p ≡ cut_of from (suc (p - 1)) = ap (cut_of from) e in
-                let row_is : length (row_of steps p) ≡ length (row_of steps (suc (p - 1))) = ap (λ r. length (row_of steps r)) e in
-                absurd (none (p - 1) (omega arith) (omega arith) (omega arith, omega arith)))
-          ]
+      not_left : (x : Marked) → Stands t x.mark x.event → IsCut t from x.event → ⊥
+      not_left x at cut =
+          let o = origin x.mark x.event at in
+          let low = (of_cut from _ _ x.event o.5).0 cut in
+          let process = process_within sound o.0 o.1 o.2 o.3 o.4 in
+          let within = nth_within (row_of (steps_of t) o.0) o.1 (entry_of o.2 o.3) o.4 in
+          let e : o.0 - 1 + 1 ≡ o.0 = omega arith in
+          let done = rw e at (none (o.0 - 1) (omega arith) (omega arith)) in omega arith
 
   -- sorted, they are in order
-  pub in_order_is : {cuts : List ℕ} {found : List Marked} (sorted : List Marked) → AreGathered cuts steps sent found
+  pub in_order_is : {cuts : List ℕ} {found : List Marked} (sorted : List Marked) → AreGathered cuts t found
       → IsPermutation found sorted → IsNonDecreasingBy (λ (x : Marked). x.mark) sorted
-      → (events : List Event) → events ≡ events_of sorted → AreInOrder cuts steps sent events
+      → (events : List Event) → events ≡ events_of sorted → AreInOrder cuts t events
   in_order_is {found = found} sorted are moved rises events events_are =
       record {
         marked = sorted;
-        rising = sorted_rises sorted rises (moved_once found sorted moved (apart_once found (pairwise_map HasOtherEvent HasOtherMark found other are.apart)));
+        rising =
+            sorted_rises sorted rises
+            (moved_distinct found sorted moved (apart_distinct found (pairwise_map HasOtherEvent HasOtherMark found other are.apart)));
         same = λ x. ((λ h. (are.same x).0 (moved_only found sorted moved x h)), (λ s. moved_has found sorted moved x ((are.same x).1 s)));
         are = events_are;
       }
     where
       other : (x y : Marked) → Has found x → Has found y → HasOtherEvent x y → HasOtherMark x y
       other x y h_x h_y apart same =
-          apart (sound.single y.mark x.event y.event (rw same at ((are.same x).0 h_x).0) ((are.same y).0 h_y).0)
+          apart (sound.marked.single y.mark x.event y.event (rw same at ((are.same x).0 h_x).0) ((are.same y).0 h_y).0)
 
 pub if_ok_mapped : {A E : Type 0} {P Q : A → Type 0} → ((a : A) → P a → Q a) → (r : Result A E) → IfOk r P → IfOk r Q
 if_ok_mapped more (Ok a) h = more a h
 if_ok_mapped more (Err e) h = tt
+
+-- ---- the whole history, and a step with its consequences, in order
+
+-- ---- the marks of what is removed
+
+-- those of the list whose positions, from the given one on, are removed
+record IsPart (IsRemoved : ℕ → Type 0) (n : ℕ) (xs : List Marked) (removed : List Event) : Type 0 where
+  part : List Marked
+  rising : IsRising part
+  are : events_of part ≡ removed
+  only : (x : Marked) → Has part x → (at : ℕ) × (i : ℕ) × (at ≡ n + i) × (slice_get xs i ≡ Some x) × IsRemoved at
+  all : (at i : ℕ) (x : Marked) → at ≡ n + i → slice_get xs i ≡ Some x → IsRemoved at → Has part x
+
+module _ (IsRemoved : ℕ → Type 0) where
+  part_of : (n : ℕ) (xs : List Marked) {left removed : List Event} → IsRising xs
+      → IsParted IsRemoved n (events_of xs) left removed → IsPart IsRemoved n xs removed
+  part_of n [] rising done = record { part = []; rising = tt; are = refl; only = λ x h. absurd h; all = λ at i x e there removed. absurd (none-some x there) }
+  part_of n (y ∷ ys) rising (kept stays rest) =
+      let more = part_of (suc n) ys rising.1 rest in
+      record {
+        part = more.part;
+        rising = more.rising;
+        are = more.are;
+        only = λ x h. let found = more.only x h in (found.0, suc found.1, omega arith, found.3, found.4);
+        all = all more;
+      }
+    where
+      all : {removed : List Event} (more : IsPart IsRemoved (suc n) ys removed) (at i : ℕ) (x : Marked)
+          → at ≡ n + i → slice_get (y ∷ ys) i ≡ Some x → IsRemoved at → Has more.part x
+      all more at zero x e there here = let same : at ≡ n = omega arith in absurd (stays (rw same at here))
+      all more at (suc i) x e there here = more.all at i x (omega arith) there here
+  part_of n (y ∷ ys) rising (gone first rest) =
+      let more = part_of (suc n) ys rising.1 rest in
+      record {
+        part = y ∷ more.part;
+        rising = ((λ x h. let found = more.only x h in rising.0 x (at_has ys found.1 x found.3)), more.rising);
+        are = ap (λ l. y.event ∷ l) more.are;
+        only = only more;
+        all = all more;
+      }
+    where
+      only : {removed : List Event} (more : IsPart IsRemoved (suc n) ys removed) (x : Marked)
+          → Has (y ∷ more.part) x → (at : ℕ) × (i : ℕ) × (at ≡ n + i) × (slice_get (y ∷ ys) i ≡ Some x) × IsRemoved at
+      only more x (inl e) = (n, 0, omega arith, ap Some e, first)
+      only more x (inr h) = let found = more.only x h in (found.0, suc found.1, omega arith, found.3, found.4)
+
+      all : {removed : List Event} (more : IsPart IsRemoved (suc n) ys removed) (at i : ℕ) (x : Marked)
+          → at ≡ n + i → slice_get (y ∷ ys) i ≡ Some x → IsRemoved at → Has (y ∷ more.part) x
+      all more at zero x e there here = inl (same_Some y x there)
+      all more at (suc i) x e there here = inr (more.all at i x (omega arith) there here)
+
+-- a free event has no consequences
+pub free_alone : (history : List Event) (at : ℕ) (it : Event) → 1 ≤ at → nth history at ≡ Some it
+    → IsFree depends history at → rolled_back depends history at ≡ it ∷ []
+free_alone history at it one there free =
+    rolled_back_split depends history at it there
+    ∙ ap (λ l. it ∷ l) (none_found (IsConsequence depends history at) none (consequences_parted depends history at one).1)
+  where
+    none : (i : ℕ) → IsConsequence depends history at i → ⊥
+    none i (direct link) = free i link
+    none i (onward first link) = none _ first
+
+module _ {t : Tables} (sound : IsSound t)
+    {cuts : List ℕ} {events : List Event} (ordered : AreInOrder cuts t events) where
+  -- where nothing is below the numbers, that is the whole history
+  pub all_in_order : ((q : ℕ) → cut_of cuts q ≡ 0) → events ≡ history_in t
+  all_in_order none =
+      ordered.are
+      ∙ ap events_of
+      (same_list ordered.marked (standing t) ordered.rising (standing_rising t)
+      (λ x h. standing_has t sound.marked x.mark x.event ((ordered.same x).0 h).0)
+      (λ x h.
+      let there = standing_only t x h in
+      let of = origin sound x.mark x.event there in
+      (ordered.same x).1 (there, (of_cut sound cuts _ _ x.event of.5).1 (let zero_is = none of.0 in omega arith))))
+
+  -- a step with its consequences
+  pub cut_in_order : (name : StepId) → AreConsequencesCut t name cuts → (at : ℕ)
+      → IsNamedAt (history_in t) at name → 1 ≤ at → events ≡ rolled_back depends (history_in t) at
+  cut_in_order name are at named one =
+      let part =
+      part_of (IsRolledBack depends (history_in t) at) 1 (standing t)
+      (standing_rising t) (parted depends (history_in t) at one) in
+      ordered.are
+      ∙ ap events_of
+      (same_list ordered.marked part.part ordered.rising part.rising
+      (λ x h.
+      let cut = (ordered.same x).0 h in
+      let found = has_at (standing t) x (standing_has t sound.marked x.mark x.event cut.0) in
+      part.all (suc found.0) found.0 x (omega arith) found.1 ((are at named (suc found.0) x.event (event_there found.0 x found.1)).0 cut.1))
+      (λ x h.
+      let found = part.only x h in
+      let number : found.0 ≡ suc found.1 = omega arith in
+      let there = standing_only t x (at_has (standing t) found.1 x found.3) in
+      (ordered.same x).1 (there, (are at named (suc found.1) x.event (event_there found.1 x found.3)).1 (rw number at found.4))))
+      ∙ part.are
+    where
+      event_there : (i : ℕ) (x : Marked) → slice_get (standing t) i ≡ Some x → nth (history_in t) (suc i) ≡ Some x.event
+      event_there i x there = nth_map (λ (m : Marked). m.event) (standing t) (suc i) x there
+
+-- ---- by name
+
+from_one : (history : List Event) (at : ℕ) (name : StepId) → IsNamedAt history at name → 1 ≤ at
+from_one history at name h = grind (arith, common_steps, gets)
+
+module _ {t : Tables} (kept : AreKept t) where
+  abbrev IsRolledBackFrom : StepId → List Event → Type 0
+  IsRolledBackFrom name events = (at : ℕ) → IsNamedAt (history_in t) at name → events ≡ rolled_back depends (history_in t) at
+
+  pub step_rolled : (name : StepId) {cuts : List ℕ} {events : List Event}
+      → (IsStandingName (history_in t) name → AreConsequencesCut t name cuts)
+      → AreInOrder cuts t events → IsRolledBackFrom name events
+  step_rolled name are ordered at h = cut_in_order kept.sound ordered name (are (at, h)) at h (from_one (history_in t) at name h)
+
+  pub loss_rolled : (copy : CopyName) (events : List Event) → events ≡ event.Lost copy ∷ [] → IsRolledBackFrom (named.Lost copy) events
+  loss_rolled copy events are at h =
+      are ∙ sym (free_alone (history_in t) at (event.Lost copy) (from_one (history_in t) at (named.Lost copy) h)
+      (by h.0 h.1 h.2) (first_of_loss kept.sound copy at h))
+    where
+      by : (it : Event) → nth (history_in t) at ≡ Some it → event_name it ≡ named.Lost copy → nth (history_in t) at ≡ Some (event.Lost copy)
+      by (event.Step p k kind) there is = absurd (cc)
+      by (event.Lost other) there is = let same : other ≡ copy = cc in there ∙ ap (λ c. Some (event.Lost c)) same

@@ -1,30 +1,26 @@
 -- The steps of a process in the history, and their numbers; how many writes of a register stand before a step.
 use Rattle.std.proofs.lemmas.Grind.{common_steps}
-use Rattle.std.proofs.Common.{◌≡◌, ℕ, zero, suc, ◌+◌, ◌<◌, ◌≤◌, Bool, true, List, [], ◌∷◌, length, slice_get, Some, filter, inl, ⊎_elim, refl, sym}
-use Rattle.std.proofs.Common.{ap, ◌∙◌, subst, true≢false, eqb-true, eq-eqb, arith, ◌&&◌, cond, nat_le, nat_lt, take, Option, None, inr}
+use Rattle.std.proofs.Common.{◌≡◌, ℕ, zero, suc, ◌+◌, ◌<◌, ◌≤◌, Bool, true, List, [], ◌∷◌, length, slice_get, Some, filter, inl, ⊎_elim, refl, sym, ap, ◌∙◌}
+use Rattle.std.proofs.Common.{arith, ◌&&◌, cond, nat_le, nat_lt, take, Option, None, inr}
 use Rattle.std.proofs.lemmas.Bool.{cases_lt}
 use Rattle.std.proofs.lemmas.Option.{none-some, same_Some, gets}
 use Rattle.cdb_base.specs.Event.{event_name, is_step_of}
 use Rattle.cdb_base.specs.Positions.{nth}
 use Rattle.cdb_base.specs.declared.event.Event.{Event}
-use Rattle.cdb_base.specs.declared.event.Event.TheVariants as event
 use Rattle.cdb_base.specs.declared.name.StepId.{StepId}
-use Rattle.cdb_base.specs.declared.name.StepId.TheVariants as named
-use Rattle.cdb_base.specs.declared.name.StepName.{StepName}
 use Rattle.cdb_standing.specs.Comparisons.{steps_by, AreNumbered, is_write_of, AreWritesBefore}
 use Rattle.cdb_standing.specs.InOrder.{Marked, Has, IsRising, each_from, events_of}
 use Rattle.cdb_standing.specs.Moves.{HasStep, IsEndOf, IsStandingName}
-use Rattle.cdb_standing.specs.Tables.{row_of, entry_of, step_at, history_of, standing, IsSound, Stands, IsEntry}
+use Rattle.cdb_standing.specs.Tables.{steps_of, row_of, entry_of, step_at, history_in, standing, IsSound, Stands, IsEntry}
 use Rattle.cdb_standing.specs.declared.tables.Entry.{Entry}
-use Rattle.cdb_standing.specs.declared.tables.Sent.{Sent}
-use Rattle.cdb_standing.proofs.Joined.{marked}
+use Rattle.cdb_standing.specs.declared.tables.Tables.{Tables}
 use Rattle.cdb_standing.proofs.AccessLists.{row_rising, split_counts}
-use Rattle.cdb_standing.proofs.Listed.{standing_rising, standing_only, standing_has}
+use Rattle.cdb_standing.proofs.Listed.{marked, standing_rising, standing_only, standing_has}
 use Rattle.cdb_standing.proofs.Ordered.{has_at, at_has, pairwise_each, same_list}
 use Rattle.cdb_standing.proofs.Rows.{nth_some, each_one_only, each_one_has}
-use Rattle.cdb_standing.proofs.Places.{step_named, the_place, step_of_name}
+use Rattle.cdb_standing.proofs.Places.{is_step, the_place, step_of_name}
 use Rattle.std.proofs.lemmas.List.Sums.{sum_by-cons}
-use Rattle.std.specs.List.{count_by}
+use Rattle.std.specs.List.{count_by, sum_by}
 use Rattle.cdb_base.specs.declared.event.Kind.{Kind}
 use Rattle.cdb_base.specs.declared.register.Reg.{Reg}
 use Rattle.cdb_causal.specs.Names.{IsNamedAt}
@@ -33,7 +29,8 @@ use Rattle.cdb_standing.specs.Counts.{is_before, writes_register, is_write_befor
 use Rattle.cdb_standing.specs.Dependents.{process_of}
 use Rattle.cdb_standing.specs.declared.tables.Access.{Access}
 use Rattle.cdb_standing.proofs.Links.{process_within}
-use Rattle.cdb_standing.proofs.Gathering.{one_if, sum_none}
+use Rattle.cdb_base.specs.declared.event.Event.TheVariants as event
+use Rattle.cdb_base.specs.declared.name.StepId.TheVariants as named
 
 -- what passes a test
 
@@ -76,38 +73,30 @@ module _ (p : ℕ) where
       pairwise_each (λ (x y : Marked). x.mark < y.mark) (step_at p) row (λ i x at. ((λ y no. absurd no), tt))
       (λ i j x y a b less at_x at_y in_a in_b. let up = rises i j x y at_x at_y less in grind arith)
 
-module _ {next : ℕ} {steps : List (List Entry)} {sent : List (List Sent)} (sound : IsSound next steps sent) (p : ℕ) where
+module _ {t : Tables} (sound : IsSound t) (p : ℕ) where
   abbrev row : List Entry
-  row = row_of steps p
+  row = row_of (steps_of t) p
 
-  in_row : (x : Marked) → Stands steps sent x.mark x.event → is_step_of p x.event ≡ true → Has (each_from (step_at p) 1 row) x
-  in_row x at is = by x.event refl at is
-    where
-      by : (it : Event) → x.event ≡ it → Stands steps sent x.mark it → is_step_of p it ≡ true → Has (each_from (step_at p) 1 row) x
-      by (event.Step q k kind) e at is =
-          let same : q ≡ p = eqb-true q p is in
-          each_one_has (step_at p) row x k (entry_of x.mark kind) (rw same at at) (inl (ap (marked x.mark) (sym (rw same at e))))
-      by (event.Lost copy) e at is = absurd (true≢false (sym is))
+  in_row : (x : Marked) → Stands t x.mark x.event → is_step_of p x.event ≡ true → Has (each_from (step_at p) 1 row) x
+  in_row x at is = grind (arith, common_steps, gets, each_one_has (step_at p) row x)
 
-  of_row : (x : Marked) → Has (each_from (step_at p) 1 row) x → Stands steps sent x.mark x.event × (is_step_of p x.event ≡ true)
-  of_row x h =
-      let found = each_one_only (step_at p) row x h in
-      ⊎_elim (λ e. rw (← e) (found.2, eq-eqb p p refl)) (λ no. absurd no) found.3
+  of_row : (x : Marked) → Has (each_from (step_at p) 1 row) x → Stands t x.mark x.event × (is_step_of p x.event ≡ true)
+  of_row x h = grind (arith, common_steps, gets, each_one_only)
 
-  pub its_row : filter (is_its p) (standing steps sent) ≡ each_from (step_at p) 1 row
+  pub its_row : filter (is_its p) (standing t) ≡ each_from (step_at p) 1 row
   its_row =
-      same_list (filter (is_its p) (standing steps sent)) (each_from (step_at p) 1 row)
-      (its_rising p (standing steps sent) (standing_rising steps sent)) (row_rises p row (row_rising sound p))
-      (λ x h. let of = passing_only (is_its p) (standing steps sent) x h in in_row x (standing_only steps sent x of.0) of.1)
-      (λ x h. let of = of_row x h in passing_has (is_its p) (standing steps sent) x (standing_has steps sent sound.single x.mark x.event of.0) of.1)
+      same_list (filter (is_its p) (standing t)) (each_from (step_at p) 1 row)
+      (its_rising p (standing t) (standing_rising t)) (row_rises p row (row_rising sound p))
+      (λ x h. let of = passing_only (is_its p) (standing t) x h in in_row x (standing_only t x of.0) of.1)
+      (λ x h. let of = of_row x h in passing_has (is_its p) (standing t) x (standing_has t sound.marked x.mark x.event of.0) of.1)
 
-  steps_are : steps_by p (history_of steps sent) ≡ events_of (each_from (step_at p) 1 row)
-  steps_are = its_events p (standing steps sent) ∙ ap events_of its_row
+  steps_are : steps_by p (history_in t) ≡ events_of (each_from (step_at p) 1 row)
+  steps_are = its_events p (standing t) ∙ ap events_of its_row
 
-  pub steps_counted : length row ≡ length (steps_by p (history_of steps sent))
+  pub steps_counted : length row ≡ length (steps_by p (history_in t))
   steps_counted = sym (ap length steps_are ∙ row_length p 1 row)
 
-  pub are_numbered : AreNumbered p (history_of steps sent)
+  pub are_numbered : AreNumbered p (history_in t)
   are_numbered zero it at = absurd (none-some it at)
   are_numbered (suc i) it at =
       let e : 1 + i ≡ suc i = omega arith in
@@ -123,15 +112,10 @@ module _ (p : ℕ) (history : List Event) where
       (suc there.0, (found.0, there.1, numbered (suc i) found.0 found.1))
 
   pub has : (k : ℕ) → IsStandingName history (named.Step (record { p = p; k = k })) → HasStep history p k
-  has k h = by h.1.0 h.1.1 h.1.2
-    where
-      by : (it : Event) → nth history h.0 ≡ Some it → event_name it ≡ named.Step (record { p = p; k = k }) → HasStep history p k
-      by (event.Step q l kind) there name =
-          let same : step_named q l ≡ step_named p k = cc in (kind, (h.0, there ∙ ap (λ (x : StepName). Some (event.Step x.p x.k kind)) same))
-      by (event.Lost copy) there name = absurd (cc)
+  has k h = let is = is_step h.1.0 p k h.1.2 in (is.0, (h.0, rw is.1 at h.1.1))
 
   -- so the last step is that of the count
-  last_number : (k l : ℕ) → AreNumbered p history → k ≡ length (steps_by p history) → IsEndOf history p k
+  pub last_number : (k l : ℕ) → AreNumbered p history → k ≡ length (steps_by p history) → IsEndOf history p k
       → IsEndOf history p l → IsStandingName history (named.Step (record { p = p; k = l })) → l ≡ k
   last_number k l numbered count end other_end other =
       let low = end l (has l other) in
@@ -141,11 +125,19 @@ module _ (p : ℕ) (history : List Event) where
       → (l : ℕ) → name ≡ named.Step (record { p = p; k = l }) → IsEndOf history p l → IsStandingName history name
       → named.Step (record { p = p; k = k }) ≡ name
   last_named k name numbered count end l is other_end standing =
-      ap (λ n. named.Step (record { p = p; k = n })) (sym (last_number k l numbered count end other_end (subst (IsStandingName history) is standing))) ∙ sym is
+      ap (λ n. named.Step (record { p = p; k = n })) (sym (last_number k l numbered count end other_end (rw is at standing))) ∙ sym is
 
 -- ---- how many writes of a register stand before a step
 
 -- ---- counts of any list
+
+abbrev pub one_if : Bool → ℕ
+one_if b = cond b 1 0
+
+sum_none : {A : Type 0} (w : A → ℕ) (xs : List A) → ((x : A) → Has xs x → w x ≡ 0) → sum_by w xs ≡ 0
+sum_none w [] none = refl
+sum_none w (x ∷ xs) none =
+    let here = none x (inl refl) in let rest = sum_none w xs (λ y h. none y (inr h)) in let both = sum_by-cons w x xs in omega arith
 
 module _ {A : Type 0} where
   count_same : (one other : A → Bool) (xs : List A) → ((x : A) → Has xs x → one x ≡ other x) → count_by one xs ≡ count_by other xs
@@ -184,9 +176,7 @@ module _ (one other : Event → Bool) (same : (e : Event) → one e ≡ other e)
   counted_before (z ∷ xs) (suc i) x rising at =
       let here = is_before_one x.mark z (rising.0 x (at_has xs i x at)) in
       let rest = counted_before xs i x rising.1 at in
-      let left = sum_by-cons (λ y. cond (is_one_before x.mark y) 1 0) z xs in
-      let right = sum_by-cons (λ e. cond (other e) 1 0) z.event (take i (events_of xs)) in
-      omega arith
+      grind (arith, common_steps, sum_by-cons)
 
 same_writes : (register : Reg) (e : Event) → writes_register (number_of register) e ≡ is_write_of register e
 same_writes register e = grind (arith, common_steps, gets)
@@ -207,31 +197,22 @@ row_counts : (n mark p k : ℕ) (row : List Entry)
 row_counts n mark p k [] = refl
 row_counts n mark p k (x ∷ xs) = let again = row_counts n mark p (suc k) xs in grind (arith, common_steps, sum_by-cons)
 
-module _ {next : ℕ} {steps : List (List Entry)} {sent : List (List Sent)} (sound : IsSound next steps sent) where
+module _ {t : Tables} (sound : IsSound t) where
   abbrev upto : ℕ → ℕ → ℕ → ℕ
-  upto n mark i = count_by (is_write_upto n mark i) (standing steps sent)
+  upto n mark i = count_by (is_write_upto n mark i) (standing t)
 
   pub none_counted : (n mark : ℕ) → upto n mark 0 ≡ 0
-  none_counted n mark = sum_none (λ x. cond (is_write_upto n mark 0 x) 1 0) (standing steps sent) (λ x h. none x.mark x.event (standing_only steps sent x h))
-    where
-      none : (a : ℕ) (it : Event) → Stands steps sent a it → one_if (is_write_upto n mark 0 (marked a it)) ≡ 0
-      none a (event.Step p k kind) at = let within = process_within sound p k a kind at in grind (arith, common_steps)
-      none a (event.Lost copy) at = grind (arith, common_steps)
+  none_counted n mark = grind (arith, common_steps, gets, sum_none, standing_only, process_within)
 
-  pub all_counted : (n mark : ℕ) → upto n mark 9 ≡ count_by (is_write_before n mark) (standing steps sent)
-  all_counted n mark =
-      count_same (is_write_upto n mark 9) (is_write_before n mark) (standing steps sent) (λ x h. all x.mark x.event (standing_only steps sent x h))
-    where
-      all : (a : ℕ) (it : Event) → Stands steps sent a it → is_write_upto n mark 9 (marked a it) ≡ is_write_before n mark (marked a it)
-      all a (event.Step p k kind) at = let within = process_within sound p k a kind at in grind (arith, common_steps)
-      all a (event.Lost copy) at = grind (arith, common_steps)
+  pub all_counted : (n mark : ℕ) → upto n mark 9 ≡ count_by (is_write_before n mark) (standing t)
+  all_counted n mark = grind (arith, common_steps, gets, count_same, standing_only, process_within)
 
   -- one process more is counted
-  pub next_counted : {writes : List (List Access)} {n : ℕ} (mark i found : ℕ) → AreListed written writes steps → n < 11 → i < 9
+  pub next_counted : {writes : List (List Access)} {n : ℕ} (mark i found : ℕ) → AreListed written writes t → n < 11 → i < 9
       → {list : List Access} → row_of writes (cell (suc i) n) ≡ list → IsSplitAt list mark found
       → (found ≤ 65535) × (upto n mark (i + 1) ≡ upto n mark i + found)
   next_counted {writes} {n} mark i found lists eleven nine {list} list_is split =
-      let row = row_of steps (suc i) in
+      let row = row_of (steps_of t) (suc i) in
       let is : list ≡ listed written n 1 row = sym list_is ∙ lists.each (suc i) n (omega arith) (omega arith) eleven in
       let one : suc i ≡ i + 1 = omega arith in
       let short = split.within in
@@ -240,7 +221,7 @@ module _ {next : ℕ} {steps : List (List Entry)} {sent : List (List Sent)} (sou
       let few = sound.few (suc i) in
       let counts = split_counts mark list found split in
       let parts =
-      count_parts (is_write_upto n mark (suc i)) (is_write_upto n mark i) (is_its (suc i)) (is_write_before n mark) (standing steps sent)
+      count_parts (is_write_upto n mark (suc i)) (is_write_upto n mark i) (is_its (suc i)) (is_write_before n mark) (standing t)
       (λ x. next_process n mark i x.mark x.event) in
       let here =
       ap (count_by (is_write_before n mark)) (its_row sound (suc i)) ∙ row_counts n mark (suc i) 1 row
@@ -248,14 +229,14 @@ module _ {next : ℕ} {steps : List (List Entry)} {sent : List (List Sent)} (sou
       (omega arith, rw (← one) (omega arith))
 
   -- by name
-  pub writes_are : (register : Reg) (p k mark : ℕ) (kind : Kind) → IsEntry steps p k mark kind
-      → (count : ℕ) → count ≡ count_by (is_write_before (number_of register) mark) (standing steps sent)
-      → AreWritesBefore (history_of steps sent) register (named.Step (record { p = p; k = k })) count
+  pub writes_are : (register : Reg) (p k mark : ℕ) (kind : Kind) → IsEntry t p k mark kind
+      → (count : ℕ) → count ≡ count_by (is_write_before (number_of register) mark) (standing t)
+      → AreWritesBefore (history_in t) register (named.Step (record { p = p; k = k })) count
   writes_are register p k mark kind at count is zero h = absurd (none-some h.0 h.1)
   writes_are register p k mark kind at count is (suc i) h =
       is
-      ∙ counted_before (writes_register (number_of register)) (is_write_of register) (same_writes register) (standing steps sent) i
-      (marked mark (event.Step p k kind)) (standing_rising steps sent) (the_place sound mark (event.Step p k kind) at (suc i) h)
+      ∙ counted_before (writes_register (number_of register)) (is_write_of register) (same_writes register) (standing t) i
+      (marked mark (event.Step p k kind)) (standing_rising t) (the_place sound mark (event.Step p k kind) at (suc i) h)
 
-  pub none_there : (p k : ℕ) → nth (row_of steps p) k ≡ None → (at : ℕ) → IsNamedAt (history_of steps sent) at (named.Step (record { p = p; k = k })) → ⊥
+  pub none_there : (p k : ℕ) → nth (row_of (steps_of t) p) k ≡ None → (at : ℕ) → IsNamedAt (history_in t) at (named.Step (record { p = p; k = k })) → ⊥
   none_there p k none at h = let entry = step_of_name sound p k at h in none-some (entry_of entry.0 entry.1) (sym none ∙ entry.2)

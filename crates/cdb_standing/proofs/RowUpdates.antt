@@ -1,14 +1,14 @@
 -- A table with one row set.
 use Rattle.std.proofs.lemmas.Grind.{common_steps}
-use Rattle.std.proofs.Common.{◌≡◌, ◌≢◌, ℕ, zero, suc, ◌+◌, ◌-◌, ◌<◌, ◌≤◌, List, [], ◌∷◌, ◌++◌, Vec, length, set, slice_get}
-use Rattle.std.proofs.Common.{add-one, slice_index_or, Option, Some, Bor, sym, ap, ◌∙◌, arith}
-use Rattle.std.proofs.lemmas.Option.{gets}
+use Rattle.std.proofs.Common.{◌≡◌, ◌≢◌, ℕ, zero, suc, ◌+◌, ◌-◌, ◌<◌, ◌≤◌, List, [], ◌∷◌, ◌++◌, Vec, length, set, slice_get, length-set}
+use Rattle.std.proofs.Common.{add-one, slice_index_or, Option, Some, Bor, refl, sym, ap, ◌∙◌, arith}
+use Rattle.std.proofs.lemmas.Option.{gets, same_Some}
 use Rattle.std.proofs.Math.Seq.{map-set_same}
 use Rattle.std.proofs.lemmas.List.{map-set}
 use Rattle.std.specs.Option.{option_copied, MatchOption}
 use Rattle.std.specs.List.{HoldsAt}
 use Rattle.std.specs.Prelude.{vec_len, vec_capacity}
-use Rattle.cdb_standing.specs.Tables.{HasRoomIn, rows_in, row_of, IsPutOn, IsCopySet, IsRowSet}
+use Rattle.cdb_standing.specs.Tables.{HasRoomIn, rows_in, row_of, IsPutOn, HasCopy, IsCopySet}
 use Rattle.cdb_base.specs.Positions.{nth}
 use Rattle.cdb_standing.specs.declared.tables.Copied.{Copied}
 use Rattle.cdb_standing.specs.declared.tables.Sent.{Sent}
@@ -36,14 +36,14 @@ module _ {T Z : Type 0} where
   pub row_within : (table : List (Vec T Z)) (i : ℕ) → 0 < length (row_of (rows_in table) (suc i)) → i < length table
   row_within table i more = grind (arith, common_steps, gets)
 
-  pub room_within : (table : List (Vec T Z)) (i : ℕ) (v : Vec T Z) → slice_get table i ≡ Some v → i < length table
+  pub room_within : (table : List (Vec T Z)) (i : ℕ) (v : Vec T Z) → nth table (i + 1) ≡ Some v → i < length table
   room_within table i v at = grind (arith, common_steps, gets)
 
   set_at : (table : List (Vec T Z)) (i : ℕ) (v : Vec T Z) → i < length table → slice_get (set table i v) i ≡ Some v
   set_at table i v less = grind (arith, common_steps, gets)
 
-  pub room_made : (table : List (Vec T Z)) (i : ℕ) (v : Vec T Z) → i < length table → vec_len v < vec_capacity v → HasRoomIn (set table i v) i
-  room_made table i v less room = record { row = v; at = set_at table i v less; room = room }
+  pub room_made : (table : List (Vec T Z)) (i : ℕ) (v : Vec T Z) → i < length table → vec_len v < vec_capacity v → HasRoomIn (set table i v) (i + 1)
+  room_made table i v less room = rw add-one (record { row = v; at = set_at table i v less; room = room })
 
   pub put_set : (table : List (Vec T Z)) (i : ℕ) (v w : Vec T Z) (item : T) → i < length table → v ≡ slice_index_or table i v → w.items ≡ v.items ++ item ∷ []
       → IsPutOn (i + 1) (rows_in table) item (rows_in (set table i w))
@@ -92,25 +92,36 @@ get_set_other xs i j y other = grind (arith, common_steps, gets)
 
 -- ---- one copy set
 
-pub copy_set : {Z : Type 0} (table : List (Vec Sent Z)) (i j t : ℕ) (copied : Copied) (v w : Vec Sent Z)
-    → i < length table → v ≡ slice_index_or table i v → IsRowSet v.items j t copied w.items
-    → IsCopySet (rows_in table) (suc i) (suc j) (suc t) copied (rows_in (set table i w))
-copy_set table i j t copied v w less is put =
-    record {
-      was = put.was;
-      it = put.it;
-      was_sent = ap (λ row. slice_get row j) (row_at table i v less is) ∙ put.was_sent;
-      is_sent = ap (λ row. slice_get row j) (row_set table i w less ∙ put.set) ∙ get_set v.items j put.was put.it put.was_sent;
-      same_step = put.same_step;
-      set = put.became;
-      other_copies = other_copies;
-      other_messages = other_messages;
-      other_rows = λ r other. row_set_other table i w r other;
-      as_many = rows_set_length table i w;
-    }
-  where
-    other_copies : (other : ℕ) → other ≢ suc t → nth (put.it).copies other ≡ nth (put.was).copies other
-    other_copies other apart = grind (arith, common_steps, gets, get_set_other)
+module _ {Z : Type 0} (table : List (Vec Sent Z)) (i j t : ℕ) (copied : Copied) (v w : Vec Sent Z) (was : Sent)
+    (less : i < length table) (is : v ≡ slice_index_or table i v) (within : j < length v.items) (was_is : was ≡ slice_index_or v.items j was)
+    (s m to : ℕ) (s_is : s ≡ suc i) (m_is : m ≡ suc j) (to_is : to ≡ suc t) where
+  abbrev with_copy : Sent
+  with_copy = record { k = was.k; copies = set was.copies t copied }
 
-    other_messages : (n : ℕ) → n ≢ suc j → nth (row_of (rows_in (set table i w)) (suc i)) n ≡ nth (row_of (rows_in table) (suc i)) n
-    other_messages n apart = rw (row_set table i w less ∙ put.set, row_at table i v less is) (grind (arith, common_steps, gets, get_set_other))
+  pub copy_set : HasCopy (rows_in table) s m to → w.items ≡ set v.items j with_copy → IsCopySet (rows_in table) s m to copied (rows_in (set table i w))
+  copy_set has put =
+      rw (s_is, m_is, to_is) (record {
+        was = was;
+        it = with_copy;
+        was_sent = was_sent;
+        is_sent = ap (λ row. slice_get row j) (row_set table i w less ∙ put) ∙ get_set v.items j was with_copy there;
+        same_step = refl;
+        same_length = length-set was.copies t copied;
+        set = get_set was.copies t copy.0 copied (ap (λ (it : Sent). nth it.copies (suc t)) same ∙ copy.1.became);
+        other_copies = λ other apart. grind (arith, common_steps, gets, get_set_other);
+        other_messages = λ n apart. rw (row_set table i w less ∙ put, row_at table i v less is) (grind (arith, common_steps, gets, get_set_other));
+        other_rows = λ r other. row_set_other table i w r other;
+        as_many = rows_set_length table i w;
+      })
+    where
+      copy : HasCopy (rows_in table) (suc i) (suc j) (suc t)
+      copy = rw (s_is, m_is, to_is) at has
+
+      there : slice_get v.items j ≡ Some was
+      there = got v.items j was within was_is
+
+      was_sent : nth (row_of (rows_in table) (suc i)) (suc j) ≡ Some was
+      was_sent = ap (λ row. slice_get row j) (row_at table i v less is) ∙ there
+
+      same : was ≡ copy.1.it
+      same = same_Some was copy.1.it (sym was_sent ∙ copy.1.was_sent)

@@ -1,6 +1,7 @@
 -- What is counted and compared in the tables.
-use Rattle.std.specs.Prelude.{◌≡◌, ◌↔◌, ℕ, ◌≤◌, Bool, false, ◌&&◌, nat_lt, List, Some}
+use Rattle.std.specs.Prelude.{◌≡◌, ◌↔◌, ℕ, Bool, false, ◌&&◌, nat_lt, List, Some, All}
 use Rattle.cdb_base.specs.Positions.{nth}
+use Rattle.cdb_base.specs.Processes.{all_processes}
 use Rattle.cdb_base.specs.declared.event.Event.{Event}
 use Rattle.cdb_base.specs.declared.event.Event.TheVariants.{Step}
 use Rattle.cdb_standing.specs.Accesses.{is_that, written}
@@ -28,9 +29,9 @@ pub record HasLost (row : List Sent) (m to : ℕ) : Type 0 where
   pub was_sent : nth row m ≡ Some it
   pub became : nth it.copies to ≡ Some (Lost mark)
 
--- of both rows, the same copies of that message are lost; and of all messages
+-- of both rows, the same copies of that message are lost; and of all messages of either
 abbrev pub LoseSameOf : List Sent → List Sent → ℕ → Type 0
-LoseSameOf row other m = (to : ℕ) → to ≤ 9 → HasLost row m to ↔ HasLost other m to
+LoseSameOf row other m = All (λ to. HasLost row m to ↔ HasLost other m to) all_processes
 
-abbrev pub LoseSameIn : List Sent → List Sent → Type 0
-LoseSameIn row other = (m : ℕ) → LoseSameOf row other m
+pub record LoseSameIn (row other : List Sent) : Type 0 where
+  pub each : (m : ℕ) → LoseSameOf row other m

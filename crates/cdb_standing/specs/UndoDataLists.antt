@@ -3,7 +3,7 @@ use Rattle.std.specs.Prelude.{◌≡◌, ℕ, ◌≤◌, List, map, length, unwr
 use Rattle.cdb_base.specs.Positions.{nth}
 use Rattle.cdb_base.specs.declared.event.Event.{Event}
 use Rattle.cdb_base.specs.declared.event.Event.TheVariants.{Step, Lost}
-use Rattle.cdb_standing.specs.Moves.{HasStep}
+use Rattle.cdb_standing.specs.Comparisons.{steps_by}
 use Rattle.cdb_standing.specs.Recorded.{nothing, recorded_of}
 use Rattle.cdb_standing.specs.Tables.{row_of}
 use Rattle.cdb_standing.specs.declared.recorded.UndoData.{UndoData}
@@ -23,7 +23,7 @@ pub record AreUpTo (Has : ℕ → Type 0) (count : ℕ) : Type 0 where
   pub within : (k : ℕ) → Has k → (1 ≤ k) × (k ≤ count)
   pub each : (k : ℕ) → 1 ≤ k → k ≤ count → Has k
 
--- each step that stands has an item of the row of its process, and nothing else has
+-- of each process there are as many items as steps
 pub record AreBeside {B : Type 0} (lefts : List (List (UndoData B))) (history : List Event) : Type 0 where
   pub processes : length lefts ≡ 9
-  pub steps : (p : ℕ) → AreUpTo (HasStep history p) (length (row_of lefts p))
+  pub steps : (p : ℕ) → length (row_of lefts p) ≡ length (steps_by p history)

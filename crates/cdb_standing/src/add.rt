@@ -1,28 +1,18 @@
 //! How an event is added.
 
 ghost use Rattle.std.specs.Prelude.{◌≡◌, ◌+◌, ◌<◌, ◌≤◌, length, OnOk};
-ghost use Rattle.cdb_standing.specs.Accesses.{accessed as accessed_by, written as written_by, access_of};
-ghost use Rattle.cdb_standing.specs.Accesses.{HasRoomToList, IsListedAt, IsRegisterOf};
-ghost use Rattle.cdb_standing.specs.Tables.{steps_of, sent_of, HoldSameSteps, HasRoomFor, HasRoomToMail};
-ghost use Rattle.cdb_standing.specs.Tables.{HoldSame, HasRows, rows_in, HasCopy, IsCopySet, IsMailedBy};
-ghost use Rattle.cdb_standing.specs.Tables.{MayMail, IsStepAdded};
+ghost use Rattle.cdb_standing.specs.Accesses.{accessed as accessed_by, written as written_by, HasRoomToList};
+ghost use Rattle.cdb_standing.specs.Accesses.{IsRegisterOf};
+ghost use Rattle.cdb_standing.specs.Kept.{IsStepAdded, IsLossSet};
+ghost use Rattle.cdb_standing.specs.Tables.{sent_of, HasRoomIn, HasRoomToMail, HoldSame, HasRows, rows_in, HasCopy};
+ghost use Rattle.cdb_standing.specs.Tables.{IsMailedBy, MayMail};
 ghost use Rattle.cdb_standing.specs.declared.tables.Copied.TheVariants.{Lost};
 
 use crate::accesses::{accessed, list_at, reserve_list, written};
 use crate::copies::set_copy;
-use crate::table::{put_on, reserve_in, reserve_step_in};
+use crate::table::{put_on, reserve_in, steps_more};
 use crate::tables::{Access, Copied, Entry, Sent, Tables};
 use cdb_base::{CopyName, Kind, NoMemory, Proc};
-
-/// Makes room for one item more in the row of a process. The rows hold what they held, whatever is
-/// returned.
-fn reserve_for<T: Drop>(table: &mut Vec<Vec<T>>, p: Proc) -> Result<(), NoMemory>
-    requires { length table.old.items ≡ 9 }
-    ensures same { rows_in table.new.items ≡ rows_in table.old.items }
-    ensures room { OnOk result (HasRoomFor table.new.items p) }
-{
-    reserve_in(table, p.index())
-}
 
 /// Makes room for what a step sends, if it sends. The rows hold what they held, whatever is returned.
 fn reserve_mail(sent: &mut Vec<Vec<Sent>>, p: Proc, kind: &Kind) -> Result<(), NoMemory>
@@ -31,7 +21,7 @@ fn reserve_mail(sent: &mut Vec<Vec<Sent>>, p: Proc, kind: &Kind) -> Result<(), N
     ensures room { OnOk result (HasRoomToMail p kind.now sent.new.items) }
 {
     match kind {
-        Kind::Send(_) => reserve_for(sent, p),
+        Kind::Send(_) => reserve_in(sent, p.index(), 1),
         _ => Ok(()),
     }
 }
@@ -53,13 +43,14 @@ pub(crate) fn reserve_step(tables: &mut Tables, p: Proc, kind: &Kind) -> Result<
     requires { HasRows tables.old }
     ensures same { HoldSame tables.old tables.new }
     ensures mark { OnOk result (tables.new.next < u64.MAX) }
-    ensures room { OnOk result (HasRoomFor tables.new.steps.items p) }
+    ensures room { OnOk result (HasRoomIn tables.new.steps.items p) }
     ensures mail { OnOk result (HasRoomToMail p kind.now tables.new.sent.items) }
     ensures accesses { OnOk result (HasRoomToList (accessed_by kind.now) p tables.new.accesses.items) }
     ensures writes { OnOk result (HasRoomToList (written_by kind.now) p tables.new.writes.items) }
 {
     reserve_mark(tables)?;
-    reserve_step_in(&mut tables.steps, p.index())?;
+    let count = tables.steps[p.index()].len();
+    reserve_in(&mut tables.steps, p.index(), steps_more(count))?;
     reserve_mail(&mut tables.sent, p, kind)?;
     reserve_list(&mut tables.accesses, p, accessed(kind))?;
     reserve_list(&mut tables.writes, p, written(kind))
@@ -85,20 +76,14 @@ fn mail(sent: &mut Vec<Vec<Sent>>, p: Proc, k: u16, kind: &Kind)
 #[inline(always)]
 pub(crate) fn add_step(tables: &mut Tables, p: Proc, k: u16, kind: &Kind)
     requires mark { tables.old.next < u64.MAX }
-    requires room { HasRoomFor tables.old.steps.items p }
+    requires room { HasRoomIn tables.old.steps.items p }
     requires mail_room { HasRoomToMail p kind.now tables.old.sent.items }
     requires may_mail { MayMail p kind.now (sent_of tables.old) }
     requires accesses_room { HasRoomToList (accessed_by kind.now) p tables.old.accesses.items }
     requires writes_room { HasRoomToList (written_by kind.now) p tables.old.writes.items }
-    ensures added { IsStepAdded tables.old.next p k kind.now (steps_of tables.old) (sent_of tables.old)
-        (steps_of tables.new) (sent_of tables.new) }
-    ensures accesses { IsListedAt (accessed_by kind.now) p (access_of tables.old.next k)
-        (rows_in tables.old.accesses.items) (rows_in tables.new.accesses.items) }
-    ensures writes { IsListedAt (written_by kind.now) p (access_of tables.old.next k)
-        (rows_in tables.old.writes.items) (rows_in tables.new.writes.items) }
+    ensures added { IsStepAdded p k kind.now tables.old tables.new }
     ensures registers { IsRegisterOf accessed_by kind.now }
     ensures process { 1 ≤ p }
-    ensures next { tables.new.next ≡ tables.old.next + 1 }
 {
     let mark = tables.next;
     let entry = Entry { mark, kind: *kind };
@@ -113,14 +98,9 @@ pub(crate) fn add_step(tables: &mut Tables, p: Proc, k: u16, kind: &Kind)
 pub(crate) fn add_loss(tables: &mut Tables, copy: &CopyName)
     requires mark { tables.old.next < u64.MAX }
     requires sent { HasCopy (sent_of tables.old) copy.now.msg.s copy.now.msg.m copy.now.to }
-    ensures lost { IsCopySet (sent_of tables.old) copy.now.msg.s copy.now.msg.m copy.now.to (Lost tables.old.next)
-        (sent_of tables.new) }
-    ensures next { tables.new.next ≡ tables.old.next + 1 }
-    ensures same { HoldSameSteps tables.old tables.new }
-    ensures to_nine { copy.now.to ≤ 9 }
+    ensures { IsLossSet tables.old copy.now (Lost tables.old.next) (tables.old.next + 1) tables.new }
 {
     let mark = tables.next;
-    let _number = copy.to.number();
     set_copy(
         &mut tables.sent,
         copy.msg.s,

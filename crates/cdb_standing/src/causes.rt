@@ -1,29 +1,29 @@
 //! The direct causes of an event: of each process the last step on which it depends, where nothing lies between.
 
-ghost use Rattle.std.specs.Prelude.{◌≡◌, ◌↔◌, ℕ, ◌<◌, IsTrue, IfSome, length};
+ghost use Rattle.std.specs.Prelude.{◌≡◌, ◌↔◌, ℕ, IsTrue, Some};
 ghost use Rattle.cdb_base.specs.declared.event.Event.TheVariants.{Step};
-ghost use Rattle.cdb_standing.specs.Accesses.{cell, IsRisingBy};
-ghost use Rattle.cdb_standing.specs.Causes.{sent_by, writes as writes_of, register_of_both, between_in};
-ghost use Rattle.cdb_standing.specs.Causes.{HasAccessBetween, IsLastByList, IsLastCause, IsLastCauseOrNone};
+ghost use Rattle.cdb_standing.specs.Accesses.{accessed as accessed_by, writes as writes_of, IsRisingBy};
+ghost use Rattle.cdb_standing.specs.Causes.{sent_by, HasAccessBetween, HasConflictBetween};
+ghost use Rattle.cdb_standing.specs.Causes.{IsLastByList, IsLastCause, IsLastCauseOrNone};
 ghost use Rattle.cdb_standing.specs.Causes.{FindsBetween, IsDirectOf, AreDirect, AreDirectByName};
 ghost use Rattle.cdb_standing.specs.Kept.{AreKept};
-ghost use Rattle.cdb_standing.specs.Tables.{steps_of, sent_of, rows_in, row_of, IsEntry, Stands};
+ghost use Rattle.cdb_standing.specs.Tables.{IsEntry, Stands};
 
-use crate::accesses::{accessed, last_before, list_of, number_of};
+use crate::accesses::{accessed, conflicts, last_before};
 use crate::find::find_marked;
 use crate::table::item;
-use crate::tables::{Access, Entry, Sent, Tables};
+use crate::tables::{Access, Entry, Tables};
 use cdb_base::{Event, Kind, Proc, StepId, StepName};
 use smallvec::SmallVec;
 use std::alloc::Global;
 
 /// The number of the step of process `q` that sends the `m`-th message of process `s`, if one does.
-fn by_message(sent: &Vec<Vec<Sent>>, s: Proc, m: u16, q: Proc) -> Option<u16>
-    requires { length sent.now.items ≡ 9 }
-    ensures { result ≡ sent_by (rows_in sent.now.items) s m q }
+fn by_message(tables: &Tables, s: Proc, m: u16, q: Proc) -> Option<u16>
+    requires { AreKept tables.now }
+    ensures { result ≡ sent_by tables.now s m q }
 {
     if s == q {
-        Some(item(sent, s.index(), m)?.k)
+        Some(item(&tables.sent, s, m)?.k)
     } else {
         None
     }
@@ -48,30 +48,27 @@ fn last_cause_of_step(
     q: Proc,
 ) -> Option<u16>
     requires kept { AreKept tables.now }
-    requires at { IsEntry (steps_of tables.now) p k ahead kind.now }
-    ensures { IsLastCauseOrNone (steps_of tables.now) (sent_of tables.now) (Step p k kind.now) ahead q result }
+    requires at { IsEntry tables.now p k ahead kind.now }
+    ensures { IsLastCauseOrNone tables.now (Step p k kind.now) ahead q result }
 {
-    let _number = q.number();
     if p == q {
         return if k > 1 { Some(k - 1) } else { None };
     }
     match kind {
-        Kind::Recv(s, m) => by_message(&tables.sent, *s, *m, q),
-        Kind::Read(register) => by_list(list_of(&tables.writes, q, number_of(register)), ahead),
-        Kind::Write(register) => by_list(list_of(&tables.accesses, q, number_of(register)), ahead),
-        _ => None,
+        Kind::Recv(s, m) => by_message(tables, *s, *m, q),
+        _ => by_list(conflicts(tables, q, *kind), ahead),
     }
 }
 
 /// The number of the last step of process `q` on which an event depends.
 pub(crate) fn last_cause(tables: &Tables, effect: &Event, ahead: u64, q: Proc) -> Option<u16>
     requires kept { AreKept tables.now }
-    requires stands { Stands (steps_of tables.now) (sent_of tables.now) ahead effect.now }
-    ensures { IsLastCauseOrNone (steps_of tables.now) (sent_of tables.now) effect.now ahead q result }
+    requires stands { Stands tables.now ahead effect.now }
+    ensures { IsLastCauseOrNone tables.now effect.now ahead q result }
 {
     match effect {
         Event::Step { p, k, kind } => last_cause_of_step(tables, *p, *k, kind, ahead, q),
-        Event::Lost(copy) => by_message(&tables.sent, copy.msg.s, copy.msg.m, q),
+        Event::Lost(copy) => by_message(tables, copy.msg.s, copy.msg.m, q),
     }
 }
 
@@ -85,13 +82,18 @@ fn writes(kind: &Kind) -> bool
     }
 }
 
-/// The number of the register that steps of both kinds access, if they access one.
-fn common_register(kind: &Kind, other: &Kind) -> Option<usize>
-    ensures value { result ≡ register_of_both kind.now other.now }
-    ensures few { IfSome result (λ n. n < 11) }
+/// Whether steps of both kinds access one register.
+fn access_one(kind: &Kind, other: &Kind) -> bool
+    ensures same { IsTrue result → accessed_by kind.now ≡ accessed_by other.now }
+    ensures none { (n : ℕ) → accessed_by kind.now ≡ Some n → accessed_by other.now ≡ Some n → IsTrue result }
 {
-    let n = accessed(kind)?;
-    if accessed(other)? == n { Some(n) } else { None }
+    match accessed(kind) {
+        Some(n) => match accessed(other) {
+            Some(m) => m == n,
+            None => false,
+        },
+        None => false,
+    }
 }
 
 /// Whether an access of a list has a mark between two.
@@ -105,29 +107,18 @@ fn has_between(list: &[Access], behind: u64, ahead: u64) -> bool
     }
 }
 
-/// Whether process `s` has an access of a register between two steps of those kinds, the later one of process `p`, that
-/// depends on the earlier one and on which the later one depends.
-fn is_between(
-    tables: &Tables,
-    cause: &Kind,
-    behind: u64,
-    p: Proc,
-    kind: &Kind,
-    ahead: u64,
-    s: Proc,
-    n: usize,
-) -> bool
+/// Whether process `s` has an access between two steps that access one register, the later one of process `p`, that
+/// depends on the earlier one and on which the later one depends. What is in conflict with a read is so with a write.
+fn is_between(tables: &Tables, cause: &Entry, p: Proc, kind: &Kind, ahead: u64, s: Proc) -> bool
     requires kept { AreKept tables.now }
-    requires few { n < 11 }
+    requires same { accessed_by cause.now.kind ≡ accessed_by kind.now }
     ensures { IsTrue result
-        ↔ HasAccessBetween (row_of (between_in (rows_in tables.now.accesses.items) (rows_in tables.now.writes.items)
-        cause.now p kind.now s) (cell s n)) behind ahead }
+        ↔ HasConflictBetween tables.now cause.now.kind cause.now.mark p kind.now ahead s }
 {
-    let _number = s.number();
-    if writes(cause) && (s == p || writes(kind)) {
-        has_between(list_of(&tables.accesses, s, n), behind, ahead)
+    if s == p || writes(kind) {
+        has_between(conflicts(tables, s, cause.kind), cause.mark, ahead)
     } else {
-        has_between(list_of(&tables.writes, s, n), behind, ahead)
+        has_between(conflicts(tables, s, *kind), cause.mark, ahead)
     }
 }
 
@@ -142,18 +133,16 @@ fn is_hidden_from_step(
     ahead: u64,
 ) -> bool
     requires kept { AreKept tables.now }
-    requires at { IsEntry (steps_of tables.now) p k ahead kind.now }
-    ensures { (q l : ℕ) → IsLastCause (steps_of tables.now) (sent_of tables.now)
-        (Step p k kind.now) ahead q l cause.now.mark cause.now.kind →
-        FindsBetween (steps_of tables.now) (sent_of tables.now)
-        (Step q l cause.now.kind) cause.now.mark (Step p k kind.now) ahead result }
+    requires at { IsEntry tables.now p k ahead kind.now }
+    ensures { (q l : ℕ) → IsLastCause tables.now (Step p k kind.now) ahead q l cause.now.mark cause.now.kind →
+        FindsBetween tables.now (Step q l cause.now.kind) cause.now.mark (Step p k kind.now) ahead result }
 {
-    let Some(n) = common_register(&cause.kind, kind) else {
+    if !access_one(&cause.kind, kind) {
         return false;
-    };
+    }
     for i in 0..9u8 {
         let s = Proc::new(i + 1);
-        if is_between(tables, &cause.kind, cause.mark, p, kind, ahead, s, n) {
+        if is_between(tables, cause, p, kind, ahead, s) {
             return true;
         }
     }
@@ -164,10 +153,9 @@ fn is_hidden_from_step(
 /// step, and on which the event depends.
 fn is_hidden(tables: &Tables, cause: &Entry, effect: &Event, ahead: u64) -> bool
     requires kept { AreKept tables.now }
-    requires stands { Stands (steps_of tables.now) (sent_of tables.now) ahead effect.now }
-    ensures { (q l : ℕ) → IsLastCause (steps_of tables.now) (sent_of tables.now)
-        effect.now ahead q l cause.now.mark cause.now.kind → FindsBetween (steps_of tables.now) (sent_of tables.now)
-        (Step q l cause.now.kind) cause.now.mark effect.now ahead result }
+    requires stands { Stands tables.now ahead effect.now }
+    ensures { (q l : ℕ) → IsLastCause tables.now effect.now ahead q l cause.now.mark cause.now.kind →
+        FindsBetween tables.now (Step q l cause.now.kind) cause.now.mark effect.now ahead result }
 {
     match effect {
         Event::Step { p, k, kind } => is_hidden_from_step(tables, cause, *p, *k, kind, ahead),
@@ -178,11 +166,11 @@ fn is_hidden(tables: &Tables, cause: &Entry, effect: &Event, ahead: u64) -> bool
 /// The name of the direct cause of an event that is a step of process `q`, if one is.
 fn direct_of(tables: &Tables, effect: &Event, ahead: u64, q: Proc) -> Option<StepId>
     requires kept { AreKept tables.now }
-    requires stands { Stands (steps_of tables.now) (sent_of tables.now) ahead effect.now }
-    ensures { IsDirectOf (steps_of tables.now) (sent_of tables.now) effect.now ahead q result }
+    requires stands { Stands tables.now ahead effect.now }
+    ensures { IsDirectOf tables.now effect.now ahead q result }
 {
     let k = last_cause(tables, effect, ahead, q)?;
-    let cause = item(&tables.steps, q.index(), k)?;
+    let cause = item(&tables.steps, q, k)?;
     if is_hidden(tables, cause, effect, ahead) {
         None
     } else {
@@ -193,8 +181,8 @@ fn direct_of(tables: &Tables, effect: &Event, ahead: u64, q: Proc) -> Option<Ste
 /// The names of the direct causes of an event, by process.
 fn direct_in(alloc: Global, tables: &Tables, effect: &Event, ahead: u64) -> SmallVec<StepId, 9>
     requires kept { AreKept tables.now }
-    requires stands { Stands (steps_of tables.now) (sent_of tables.now) ahead effect.now }
-    ensures { AreDirect (steps_of tables.now) (sent_of tables.now) effect.now ahead 9 result.items }
+    requires stands { Stands tables.now ahead effect.now }
+    ensures { AreDirect tables.now effect.now ahead 9 result.items }
 {
     let mut causes = SmallVec::new(alloc);
     for i in 0..9u8 {

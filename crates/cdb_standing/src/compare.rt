@@ -1,10 +1,11 @@
 //! What two histories are compared by, in the tables: the writes before a mark, and the losses.
 
-ghost use Rattle.std.specs.Prelude.{◌≡◌, ◌↔◌, ◌+◌, ◌<◌, ℕ, length, IsTrue};
+ghost use Rattle.std.specs.Prelude.{◌≡◌, ◌↔◌, ◌+◌, ◌<◌, All, length, IsTrue};
 ghost use Rattle.std.specs.List.{count_by};
+ghost use Rattle.cdb_base.specs.Processes.{all_processes};
 ghost use Rattle.cdb_standing.specs.Counts.{is_write_before, HasLost, LoseSameOf, LoseSameIn};
 ghost use Rattle.cdb_standing.specs.Kept.{AreKept};
-ghost use Rattle.cdb_standing.specs.Tables.{steps_of, sent_of, rows_in, row_of, standing};
+ghost use Rattle.cdb_standing.specs.Tables.{rows_in, row_of, standing};
 
 use crate::accesses::{count_before, list_of};
 use crate::table::row;
@@ -15,7 +16,7 @@ use cdb_base::Proc;
 pub(crate) fn writes_before(tables: &Tables, n: usize, mark: u64) -> usize
     requires kept { AreKept tables.now }
     requires few { n < 11 }
-    ensures { result ≡ count_by (is_write_before n mark) (standing (steps_of tables.now) (sent_of tables.now)) }
+    ensures { result ≡ count_by (is_write_before n mark) (standing tables.now) }
 {
     let mut count = 0;
     for i in 0..9u8 {
@@ -25,12 +26,11 @@ pub(crate) fn writes_before(tables: &Tables, n: usize, mark: u64) -> usize
 }
 
 /// Whether a copy of the message at that index of a row is lost.
-fn has_lost(row: &[Sent], j: usize, to: usize) -> bool
-    requires { to < 9 }
-    ensures { IsTrue result ↔ HasLost row.now (j + 1) (to + 1) }
+fn has_lost(row: &[Sent], j: usize, to: Proc) -> bool
+    ensures { IsTrue result ↔ HasLost row.now (j + 1) to }
 {
     match row.get(j) {
-        Some(it) => matches!(it.copies[to], Copied::Lost(_)),
+        Some(it) => matches!(it.copies[to.index()], Copied::Lost(_)),
         None => false,
     }
 }
@@ -39,12 +39,9 @@ fn has_lost(row: &[Sent], j: usize, to: usize) -> bool
 fn lose_same_copies(row: &[Sent], other: &[Sent], j: usize) -> bool
     ensures { IsTrue result ↔ LoseSameOf row.now other.now (j + 1) }
 {
-    for to in 0..9 {
-        if has_lost(row, j, to) != has_lost(other, j, to) {
-            return false;
-        }
-    }
-    true
+    Proc::all()
+        .iter()
+        .all(|to| has_lost(row, j, *to) == has_lost(other, j, *to))
 }
 
 /// Whether of the messages of two rows the same copies are lost.
@@ -64,12 +61,9 @@ pub(crate) fn have_same_losses(sent: &Vec<Vec<Sent>>, other: &Vec<Vec<Sent>>) ->
     requires nine { length sent.now.items ≡ 9 }
     requires other_nine { length other.now.items ≡ 9 }
     ensures { IsTrue result
-        ↔ ((s : ℕ) → LoseSameIn (row_of (rows_in sent.now.items) s) (row_of (rows_in other.now.items) s)) }
+        ↔ All (λ s. LoseSameIn (row_of (rows_in sent.now.items) s) (row_of (rows_in other.now.items) s)) all_processes }
 {
-    for i in 0..9 {
-        if !lose_same(row(sent, i), row(other, i)) {
-            return false;
-        }
-    }
-    true
+    Proc::all()
+        .iter()
+        .all(|s| lose_same(row(sent, *s), row(other, *s)))
 }

@@ -19,7 +19,6 @@ use crate::accesses::number_of;
 use crate::add::{add_loss, add_step, reserve_mark, reserve_step};
 use crate::causes::causes_in;
 use crate::compare::{have_same_losses, writes_before};
-use crate::copies::{has_copies, has_copy};
 use crate::cuts::cuts_at;
 use crate::dependents::first_of_step;
 use crate::find::find_in;
@@ -48,7 +47,8 @@ pub struct History {
 impl Model for History {
     ghost use Rattle.std.specs.Prelude.{List};
     ghost use Rattle.cdb_base.specs.declared.event.Event.{Event};
-    ghost use Rattle.cdb_standing.specs.Kept.{history_in, AreCounted};
+    ghost use Rattle.cdb_standing.specs.Kept.{AreCounted};
+    ghost use Rattle.cdb_standing.specs.Tables.{history_in};
 
     ghost Value = { List Event };
 
@@ -106,7 +106,7 @@ impl History {
         ensures err { OnErr result (self.new ≡ self.old) }
     {
         reserve_step(&mut self.tables, p, &kind)?;
-        has_copies(&self.tables.sent, p, &kind);
+        let _number = p.number();
         let left = change(state)?;
         add_step(&mut self.tables, p, k, &kind);
         self.count += 1;
@@ -162,7 +162,7 @@ impl History {
         ensures err { OnErr result (self.new ≡ self.old) }
     {
         reserve_mark(&self.tables)?;
-        has_copy(&self.tables.sent, &copy);
+        let _number = copy.to.number();
         let left = change(state)?;
         add_loss(&mut self.tables, &copy);
         self.count += 1;
@@ -208,7 +208,7 @@ impl History {
         ensures end { IsEndOf self.now p result }
         ensures numbered { AreNumbered p self.now }
     {
-        row(&self.tables.steps, p.index()).len() as u16
+        row(&self.tables.steps, p).len() as u16
     }
 
     /// How many writes of a register stand before the `k`-th step of process `p`, which stands.
@@ -216,7 +216,7 @@ impl History {
         requires { IsStandingName self.now (named.Step (record { p = p; k = k })) }
         ensures { AreWritesBefore self.now register (named.Step (record { p = p; k = k })) result }
     {
-        match item(&self.tables.steps, p.index(), k) {
+        match item(&self.tables.steps, p, k) {
             Some(entry) => writes_before(&self.tables, number_of(&register), entry.mark),
             None => 0,
         }

@@ -1,16 +1,17 @@
 //! The events that numbers cut off, in the order in which they were taken.
 
-ghost use Rattle.std.specs.Prelude.{◌≡◌, ◌<◌, ◌≤◌, ◌++◌, ◌∷◌, [], None, length};
+ghost use Rattle.std.specs.Prelude.{◌≡◌, ◌+◌, ◌<◌, ◌≤◌, ◌++◌, ◌∷◌, [], None};
 ghost use Rattle.std.specs.Prelude.{IfOk, OnOk, IfSome, IfNone};
+ghost use Rattle.cdb_base.specs.declared.event.Kind.{Kind as AKind};
 ghost use Rattle.cdb_base.specs.declared.event.Kind.TheVariants.{Send};
-ghost use Rattle.cdb_standing.specs.Gathered.{losses_of, of_step, AreGathered, AreInOrder, IsLeftAt};
-ghost use Rattle.cdb_standing.specs.Gathered.{IsNextOf, IsNextOrNone, NoneIsLeft, IsGathered};
+ghost use Rattle.cdb_standing.specs.Gathered.{losses_of, of_step, AreGathered, AreInOrder};
+ghost use Rattle.cdb_standing.specs.Gathered.{IsNext, IsNextOrNone, NoneIsLeft, IsGathered};
 ghost use Rattle.cdb_standing.specs.InOrder.{events_of};
 ghost use Rattle.cdb_standing.specs.Kept.{AreKept};
-ghost use Rattle.cdb_standing.specs.Tables.{steps_of, sent_of, rows_in, loss_at};
+ghost use Rattle.cdb_standing.specs.Tables.{loss_at, IsEntry};
 
-use crate::table::item;
-use crate::tables::{Copied, Entry, Marked, Sent, Tables};
+use crate::table::{item, row};
+use crate::tables::{Copied, Entry, Marked, Tables};
 use cdb_base::{CopyName, Event, Kind, MsgName, NoMemory, Proc, Reg};
 use std::alloc::Global;
 
@@ -41,16 +42,11 @@ fn push_loss(copy: CopyName, copied: Copied, found: &mut Vec<Marked>) -> Result<
 }
 
 /// Adds the losses of the copies of a message, where it was sent.
-fn push_losses(
-    sent: &Vec<Vec<Sent>>,
-    s: Proc,
-    m: u16,
-    found: &mut Vec<Marked>,
-) -> Result<(), NoMemory>
-    requires { length sent.now.items ≡ 9 }
-    ensures { OnOk result (found.new.items ≡ found.old.items ++ losses_of (rows_in sent.now.items) s (Send m)) }
+fn push_losses(tables: &Tables, s: Proc, m: u16, found: &mut Vec<Marked>) -> Result<(), NoMemory>
+    requires { AreKept tables.now }
+    ensures { OnOk result (found.new.items ≡ found.old.items ++ losses_of tables.now s (Send m)) }
 {
-    let Some(it) = item(sent, s.index(), m) else {
+    let Some(it) = item(&tables.sent, s, m) else {
         return Ok(());
     };
     for i in 0..9u8 {
@@ -64,29 +60,30 @@ fn push_losses(
 /// Adds a step, and the losses of the copies of what it sent.
 #[inline(always)]
 fn push_step(
-    sent: &Vec<Vec<Sent>>,
+    tables: &Tables,
     p: Proc,
     k: u16,
     entry: &Entry,
     found: &mut Vec<Marked>,
 ) -> Result<(), NoMemory>
-    requires { length sent.now.items ≡ 9 }
-    ensures { OnOk result (found.new.items ≡ found.old.items ++ of_step (rows_in sent.now.items) p k entry.now) }
+    requires { AreKept tables.now }
+    ensures { OnOk result (found.new.items ≡ found.old.items ++ of_step tables.now p k entry.now) }
 {
     let kind = entry.kind;
     let event = Event::Step { p, k, kind };
     let mark = entry.mark;
     push_marked(found, Marked { mark, event })?;
     match &entry.kind {
-        Kind::Send(m) => push_losses(sent, p, *m, found),
+        Kind::Send(m) => push_losses(tables, p, *m, found),
         _ => Ok(()),
     }
 }
 
-/// A step that is the next of its process to be gathered: the index of the process, and when it was taken.
+/// A step that is the next of its process to be gathered: the index of the process, its number, and when it was taken.
 #[derive(Clone, Copy)]
 pub(crate) struct Next {
     pub(crate) i: usize,
+    pub(crate) k: u16,
     pub(crate) mark: u64,
 }
 
@@ -95,13 +92,12 @@ pub(crate) struct Next {
 fn next_at(tables: &Tables, from: &[usize; 9], i: usize) -> Option<Next>
     requires kept { AreKept tables.now }
     requires few { i < 9 }
-    ensures { IsNextOrNone (steps_of tables.now) from.now i result }
+    ensures { IsNextOrNone tables.now from.now i result }
 {
-    let entry = tables.steps[i].get(from[i].saturating_sub(1))?;
-    Some(Next {
-        i,
-        mark: entry.mark,
-    })
+    let j = from[i].saturating_sub(1);
+    let mark = row(&tables.steps, Proc::new(i as u8 + 1)).get(j)?.mark;
+    let k = j as u16 + 1;
+    Some(Next { i, k, mark })
 }
 
 /// Of the next steps of the processes at the indexes from `start` to `end`, and of another one, the earliest, or the
@@ -116,9 +112,9 @@ fn earliest(
 ) -> Option<Next>
     requires kept { AreKept tables.now }
     requires few { end ≤ 9 }
-    requires left { IfSome other (IsNextOf (steps_of tables.now) from.now) }
-    ensures left { IfSome result (IsNextOf (steps_of tables.now) from.now) }
-    ensures none { IfNone result ((other ≡ None) × NoneIsLeft (steps_of tables.now) from.now start end) }
+    requires left { IfSome other (IsNext tables.now from.now) }
+    ensures left { IfSome result (IsNext tables.now from.now) }
+    ensures none { IfNone result ((other ≡ None) × NoneIsLeft tables.now from.now start end) }
 {
     let mut found = other;
     for i in start..end {
@@ -140,8 +136,8 @@ fn earliest(
 fn first_left(tables: &Tables, from: &[usize; 9], start: usize, low: u64) -> Option<Next>
     requires kept { AreKept tables.now }
     requires few { start < 9 }
-    ensures left { IfSome result (IsNextOf (steps_of tables.now) from.now) }
-    ensures none { IfNone result (NoneIsLeft (steps_of tables.now) from.now 0 9) }
+    ensures left { IfSome result (IsNext tables.now from.now) }
+    ensures none { IfNone result (NoneIsLeft tables.now from.now 0 9) }
 {
     let found = earliest(tables, from, start, 9, low, None);
     if let Some(next) = found {
@@ -164,29 +160,25 @@ fn count_steps(tables: &Tables, cuts: &[usize; 9]) -> usize
     count
 }
 
-/// Adds the next step of the process at an index, with those losses. Returns the number behind it.
+/// Adds the next step of a process, with those losses.
 #[inline(always)]
-fn push_next(
-    tables: &Tables,
-    from: &[usize; 9],
-    i: usize,
-    found: &mut Vec<Marked>,
-) -> Result<usize, NoMemory>
+fn push_next(tables: &Tables, next: Next, found: &mut Vec<Marked>) -> Result<(), NoMemory>
     requires kept { AreKept tables.now }
-    requires left { IsLeftAt (steps_of tables.now) from.now i }
-    ensures { IfOk result (IsGathered (steps_of tables.now) (sent_of tables.now)
-        from.now i found.old.items found.new.items) }
+    requires few { next.i < 9 }
+    requires at { (kind : AKind) × IsEntry tables.now (next.i + 1) next.k next.mark kind }
+    ensures { OnOk result (IsGathered tables.now next found.old.items found.new.items) }
 {
-    let j = from[i].saturating_sub(1);
-    let p = Proc::new(i as u8 + 1);
-    push_step(&tables.sent, p, j as u16 + 1, &tables.steps[i][j], found)?;
-    Ok(j + 2)
+    let p = Proc::new(next.i as u8 + 1);
+    match item(&tables.steps, p, next.k) {
+        Some(entry) => push_step(tables, p, next.k, entry, found),
+        None => Ok(()),
+    }
 }
 
 /// What the numbers cut off, with its marks, in the order of its marks but for the losses.
 fn gathered(alloc: Global, tables: &Tables, cuts: &[usize; 9]) -> Result<Vec<Marked>, NoMemory>
     requires { AreKept tables.now }
-    ensures { IfOk result (λ found. AreGathered cuts.now (steps_of tables.now) (sent_of tables.now) found.items) }
+    ensures { IfOk result (λ found. AreGathered cuts.now tables.now found.items) }
 {
     let mut found = Vec::with_capacity(alloc, count_steps(tables, cuts))?;
     let mut from = *cuts;
@@ -195,7 +187,8 @@ fn gathered(alloc: Global, tables: &Tables, cuts: &[usize; 9]) -> Result<Vec<Mar
     while let Some(next) = first_left(tables, &from, start, low) {
         start = next.i;
         low = next.mark.saturating_add(1);
-        from[start] = push_next(tables, &from, start, &mut found)?;
+        from[start] = next.k as usize + 1;
+        push_next(tables, next, &mut found)?;
     }
     Ok(found)
 }
@@ -218,7 +211,7 @@ pub(crate) fn in_order(
     cuts: &[usize; 9],
 ) -> Result<Vec<Event>, NoMemory>
     requires { AreKept tables.now }
-    ensures { IfOk result (λ events. AreInOrder cuts.now (steps_of tables.now) (sent_of tables.now) events.items) }
+    ensures { IfOk result (λ events. AreInOrder cuts.now tables.now events.items) }
 {
     let mut found = gathered(alloc, tables, cuts)?;
     found.sort_by_key(|it| it.mark)?;

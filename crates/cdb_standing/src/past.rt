@@ -2,11 +2,11 @@
 
 ghost use Rattle.std.specs.Prelude.{◌≡◌, ℕ, ◌<◌, ◌≤◌};
 ghost use Rattle.cdb_standing.specs.Cuts.{cut_of as end_of, IsLower};
-ghost use Rattle.cdb_standing.specs.Kept.{history_in, AreKept};
+ghost use Rattle.cdb_standing.specs.Kept.{AreKept};
 ghost use Rattle.cdb_standing.specs.LedTo.{IsPastOfName};
 ghost use Rattle.cdb_standing.specs.Pasts.{AreRaised, StaysSoundPast, KeepsSoundPast, HasCausesWithin};
 ghost use Rattle.cdb_standing.specs.Pasts.{AreFew, IsLookedBehind, IsPastBegun, IsPast};
-ghost use Rattle.cdb_standing.specs.Tables.{steps_of, sent_of, Stands};
+ghost use Rattle.cdb_standing.specs.Tables.{history_in, Stands};
 
 use crate::causes::last_cause;
 use crate::cuts::first_open;
@@ -30,11 +30,10 @@ fn raise(numbers: &mut [usize; 9], q: Proc, found: Option<u16>)
 /// Raises the numbers to the steps on which an event depends.
 fn look_behind(tables: &Tables, numbers: &mut [usize; 9], effect: &Event, ahead: u64)
     requires kept { AreKept tables.now }
-    requires stands { Stands (steps_of tables.now) (sent_of tables.now) ahead effect.now }
+    requires stands { Stands tables.now ahead effect.now }
     requires few { AreFew numbers.old }
-    ensures sound { KeepsSoundPast (steps_of tables.now) (sent_of tables.now)
-        ahead effect.now numbers.old numbers.new }
-    ensures within { HasCausesWithin (steps_of tables.now) (sent_of tables.now) effect.now ahead 9 numbers.new }
+    ensures sound { KeepsSoundPast tables.now ahead effect.now numbers.old numbers.new }
+    ensures within { HasCausesWithin tables.now effect.now ahead 9 numbers.new }
     ensures higher { IsLower numbers.new numbers.old }
     ensures few { AreFew numbers.new }
 {
@@ -50,13 +49,13 @@ fn look_behind_step(tables: &Tables, numbers: &mut [usize; 9], q: Proc, l: usize
     requires short { l ≤ 65535 }
     requires own { l ≤ end_of numbers.old q }
     requires few { AreFew numbers.old }
-    ensures sound { StaysSoundPast (steps_of tables.now) (sent_of tables.now) numbers.old numbers.new }
-    ensures looked { IsLookedBehind (steps_of tables.now) (sent_of tables.now) q l numbers.new }
+    ensures sound { StaysSoundPast tables.now numbers.old numbers.new }
+    ensures looked { IsLookedBehind tables.now q l numbers.new }
     ensures higher { IsLower numbers.new numbers.old }
     ensures few { AreFew numbers.new }
 {
     let k = l as u16;
-    match item(&tables.steps, q.index(), k) {
+    match item(&tables.steps, q, k) {
         Some(entry) => {
             let kind = entry.kind;
             look_behind(tables, numbers, &Event::Step { p: q, k, kind }, entry.mark);
@@ -68,8 +67,8 @@ fn look_behind_step(tables: &Tables, numbers: &mut [usize; 9], q: Proc, l: usize
 /// The numbers to begin with: that of the event itself, if it is a step, and those of the steps on which it depends.
 fn first_numbers(tables: &Tables, effect: &Event, ahead: u64) -> [usize; 9]
     requires kept { AreKept tables.now }
-    requires stands { Stands (steps_of tables.now) (sent_of tables.now) ahead effect.now }
-    ensures { IsPastBegun (steps_of tables.now) (sent_of tables.now) effect.now ahead result }
+    requires stands { Stands tables.now ahead effect.now }
+    ensures { IsPastBegun tables.now effect.now ahead result }
 {
     let mut numbers = [0; 9];
     look_behind(tables, &mut numbers, effect, ahead);
@@ -83,8 +82,8 @@ fn first_numbers(tables: &Tables, effect: &Event, ahead: u64) -> [usize; 9]
 /// Of each process the number up to which its steps led to an event, or are the event itself.
 fn past_of(tables: &Tables, effect: &Event, ahead: u64) -> [usize; 9]
     requires kept { AreKept tables.now }
-    requires stands { Stands (steps_of tables.now) (sent_of tables.now) ahead effect.now }
-    ensures { IsPast (steps_of tables.now) (sent_of tables.now) effect.now ahead result }
+    requires stands { Stands tables.now ahead effect.now }
+    ensures { IsPast tables.now effect.now ahead result }
 {
     let mut numbers = first_numbers(tables, effect, ahead);
     let mut looked = [0; 9];

@@ -13,7 +13,7 @@ ghost use Rattle.cdb_standing.specs.Recorded.{IsLastOf, TakesFree, IsCountOf, Is
 use crate::history::History;
 use crate::positions::count_direct;
 use crate::recorded::{Recorded, UndoData};
-use crate::table::{empty_rows, put_on, reserve_step_in, take_last};
+use crate::table::{empty_rows, put_on, reserve_in, steps_more, take_last};
 use cdb_base::{CopyName, Event, Kind, NoMemory, Proc, StepId, StepName};
 use std::alloc::Global;
 use std::marker::Model;
@@ -68,6 +68,7 @@ impl<B: Drop> Records<B> {
     }
 
     /// The standing events.
+    #[tactic(auto, using(crate::proofs::Beside::history_seen))]
     pub fn history(&self) -> &History
         ensures { result.now ≡ events_of self.now }
     {
@@ -75,6 +76,7 @@ impl<B: Drop> Records<B> {
     }
 
     /// The standing events, without what takes them back.
+    #[tactic(auto, using(crate::proofs::Beside::history_seen))]
     pub fn into_history(self) -> History
         ensures { result ≡ events_of self }
     {
@@ -102,7 +104,8 @@ impl<B: Drop> Records<B> {
         ensures err { OnErr result (self.new ≡ self.old) }
     {
         let i = p.index();
-        reserve_step_in(&mut self.left, i)?;
+        let count = self.history.steps_of(p);
+        reserve_in(&mut self.left, i, steps_more(count as usize))?;
         let left = self.history.push_step_with(p, k, kind, state, change)?;
         put_on(&mut self.left, i, left);
         Ok(())
@@ -168,6 +171,7 @@ impl<B: Drop> Records<B> {
         ensures { IsRecordTakenOut self.old (named.Step (record { p = p; k = k }))
             (recorded_of (Step p k result.0) result.1) self.new }
     {
+        let _count = self.history.steps_of(p);
         let kind = self.history.take_step(p, k);
         let left = take_last(&mut self.left, p.index());
         (kind, left)

@@ -29,16 +29,15 @@ whole_ending (Ok done) = Complete
 whole_ending (Err output.Write) = WriterFailed
 whole_ending (Err (output.NoMemory refused)) = NotBegun
 
--- of the transcript of a play, and of the text of a race, which are written in pieces
-
+-- of the transcript of a play, which is written in pieces
 abbrev pub play_ending : {A : Type 0} → Result A PlayFault → Ending
 play_ending (Ok done) = Complete
 play_ending (Err play.Write) = WriterFailed
 play_ending (Err (play.NoMemory refused)) = CutShort
 play_ending (Err fault) = NotBegun
 
+-- of the text of a race, which is whole before any of it is written
 abbrev pub race_ending : {A : Type 0} → Result A RaceFault → Ending
 race_ending (Ok done) = Complete
-race_ending (Err race.Write) = WriterFailed
-race_ending (Err (race.NoMemory refused)) = CutShort
+race_ending (Err (race.Play play.Write)) = WriterFailed
 race_ending (Err fault) = NotBegun

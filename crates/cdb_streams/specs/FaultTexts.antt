@@ -27,11 +27,7 @@ play_fault_text play.Write name = codes "output failed"
 play_fault_text (play.NoMemory refused) name = codes "no memory"
 
 abbrev pub race_fault_text : RaceFault → List ℕ
-race_fault_text (race.Setup fault) = setup_fault_text fault
-race_fault_text (race.Line script line fault) = script_line_text script line fault
-race_fault_text (race.ScriptTooLong script) = long_script_text script
-race_fault_text race.Write = codes "output failed"
-race_fault_text (race.NoMemory refused) = codes "no memory"
+race_fault_text (race.Play fault) = play_fault_text fault (codes "the input")
 race_fault_text race.JournalFull = codes "journal full"
 race_fault_text (race.Spawn refused) = refused_start_text
 race_fault_text (race.Stopped seat) = codes "no thread"

@@ -23,11 +23,15 @@ abbrev pub of_setup : SetupFault → PlayFault
 of_setup (setup.NoMemory refused) = NoMemory refused
 of_setup fault = Setup fault
 
+-- of the script of this number
+abbrev pub of_script_at : ℕ → ScriptFault → PlayFault
+of_script_at number (script.Line line fault) = Line number line fault
+of_script_at number script.TooLong = ScriptTooLong number
+of_script_at number (script.NoMemory refused) = NoMemory refused
+
 -- a play has one script, of number 1
 abbrev pub of_script : ScriptFault → PlayFault
-of_script (script.Line line fault) = Line 1 line fault
-of_script script.TooLong = ScriptTooLong 1
-of_script (script.NoMemory refused) = NoMemory refused
+of_script = of_script_at 1
 
 abbrev pub of_reading : ReadFault → PlayFault
 of_reading reading.Failed = Read

@@ -3,7 +3,6 @@ pub mod Streams
 pub mod Lines
 pub mod Scripts
 pub mod Faults
-pub mod RaceFaults
 pub mod FaultTexts
 pub mod Statuses
 pub mod Endings

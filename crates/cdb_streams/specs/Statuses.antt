@@ -14,11 +14,7 @@ play_status (play.NoMemory refused) = 6
 play_status play.Write = 7
 
 abbrev pub race_status : RaceFault → ℕ
-race_status (race.Setup fault) = 4
-race_status (race.Line script line fault) = 5
-race_status (race.ScriptTooLong script) = 5
-race_status (race.NoMemory refused) = 6
-race_status race.Write = 7
+race_status (race.Play fault) = play_status fault
 race_status race.JournalFull = 8
 race_status (race.Spawn refused) = 9
 race_status (race.Stopped seat) = 9

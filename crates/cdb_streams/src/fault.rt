@@ -4,7 +4,6 @@ ghost use Rattle.std.specs.Prelude.{◌≡◌, Some, codes};
 ghost use Rattle.cdb_base.specs.Memory.{no_memory};
 ghost use Rattle.cdb_streams.specs.FaultTexts.{play_fault_text, race_fault_text};
 ghost use Rattle.cdb_streams.specs.Faults.{of_output, of_reading, of_script, of_setup};
-ghost use Rattle.cdb_streams.specs.RaceFaults.{race_fault_of_output, race_fault_of_setup};
 ghost use Rattle.cdb_streams.specs.declared.fault.PlayFault.TheVariants as play;
 ghost use Rattle.cdb_streams.specs.declared.fault.RaceFault.TheVariants as race;
 
@@ -35,18 +34,11 @@ pub enum PlayFault {
     NoMemory(NoMemory),
 }
 
-/// Why a race ended early. Scripts, lines and seats count from 1.
+/// Why a race ended early. Seats count from 1.
 #[derive(Clone, Copy, Debug, PartialEq, Eq)]
 pub enum RaceFault {
-    /// The setup's first fault, which is never out of memory.
-    Setup(SetupFault),
-    /// Of this script this line is no command: the first such line, with its first fault.
-    Line(usize, usize, LineFault),
-    /// This script has more than 1,048,576 bytes.
-    ScriptTooLong(usize),
-    /// The writer failed in this call.
-    Write,
-    NoMemory(NoMemory),
+    /// As a play ends, but that nothing is read.
+    Play(PlayFault),
     /// The journal took no further entry.
     JournalFull,
     /// The start of a thread was refused.
@@ -82,13 +74,7 @@ impl fmt::Display for RaceFault {
 
     fn fmt<W: fmt::Write>(&self, f: &mut fmt::Formatter<W>) -> fmt::Result {
         match self {
-            RaceFault::Setup(fault) => write!(f, "{fault}"),
-            RaceFault::Line(script, line, fault) => {
-                write!(f, "script {script} line {line} {fault}")
-            }
-            RaceFault::ScriptTooLong(script) => write!(f, "script {script} too long"),
-            RaceFault::Write => f.write_str("output failed"),
-            RaceFault::NoMemory(_) => f.write_str("no memory"),
+            RaceFault::Play(fault) => write!(f, "{fault}"),
             RaceFault::JournalFull => f.write_str("journal full"),
             RaceFault::Spawn(_) | RaceFault::Stopped(_) => f.write_str("no thread"),
         }
@@ -113,11 +99,7 @@ impl From<ScriptFault> for PlayFault {
     ghost from_gives = { λ fault made. made ≡ of_script fault };
 
     fn from(fault: ScriptFault) -> Self {
-        match fault {
-            ScriptFault::Line(line, fault) => PlayFault::Line(1, line, fault),
-            ScriptFault::TooLong => PlayFault::ScriptTooLong(1),
-            ScriptFault::NoMemory(refused) => PlayFault::NoMemory(refused),
-        }
+        fault.at(1)
     }
 }
 
@@ -152,31 +134,33 @@ impl From<OutputFault> for PlayFault {
 }
 
 impl From<SetupFault> for RaceFault {
-    ghost from_gives = { λ fault made. made ≡ race_fault_of_setup fault };
+    ghost from_gives = { λ fault made. made ≡ race.Play (of_setup fault) };
 
     fn from(fault: SetupFault) -> Self {
-        match fault {
-            SetupFault::NoMemory(refused) => RaceFault::NoMemory(refused),
-            fault => RaceFault::Setup(fault),
-        }
+        RaceFault::Play(PlayFault::from(fault))
     }
 }
 
 impl From<OutputFault> for RaceFault {
-    ghost from_gives = { λ fault made. made ≡ race_fault_of_output fault };
+    ghost from_gives = { λ fault made. made ≡ race.Play (of_output fault) };
 
     fn from(fault: OutputFault) -> Self {
-        match fault {
-            OutputFault::Write => RaceFault::Write,
-            OutputFault::NoMemory(refused) => RaceFault::NoMemory(refused),
-        }
+        RaceFault::Play(PlayFault::from(fault))
+    }
+}
+
+impl From<NoMemory> for RaceFault {
+    ghost from_gives = { λ refused made. made ≡ race.Play (play.NoMemory refused) };
+
+    fn from(refused: NoMemory) -> Self {
+        RaceFault::Play(PlayFault::NoMemory(refused))
     }
 }
 
 impl From<AllocError> for RaceFault {
-    ghost from_gives = { λ _ made. made ≡ race.NoMemory no_memory };
+    ghost from_gives = { λ _ made. made ≡ race.Play (play.NoMemory no_memory) };
 
     fn from(error: AllocError) -> Self {
-        RaceFault::NoMemory(NoMemory::from(error))
+        RaceFault::from(NoMemory::from(error))
     }
 }

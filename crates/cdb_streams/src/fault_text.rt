@@ -119,11 +119,7 @@ pub fn write_race_fault<W: Sink>(fault: &RaceFault, err: &mut W) -> Result<(), F
     ensures { Writes W.stream result err.old err.new (as_line (race_fault_text fault.now)) }
 {
     match fault {
-        RaceFault::Setup(fault) => write_setup_fault(fault, err),
-        RaceFault::Line(script, line, fault) => write_line_fault(*script, *line, *fault, err),
-        RaceFault::ScriptTooLong(script) => write_too_long(*script, err),
-        RaceFault::Write => write_words(OUTPUT_FAILED, err),
-        RaceFault::NoMemory(_) => write_words(NO_MEMORY, err),
+        RaceFault::Play(fault) => write_fault(fault, "the input", err),
         RaceFault::JournalFull => write_words("journal full", err),
         RaceFault::Spawn(_) | RaceFault::Stopped(_) => write_words("no thread", err),
     }

@@ -6,7 +6,7 @@ ghost use Rattle.cdb_base.specs.Limits.{MAX_ENTRIES};
 ghost use Rattle.cdb_base.specs.Memory.{no_memory};
 ghost use Rattle.cdb_setup.specs.Format.{longest};
 ghost use Rattle.cdb_streams.specs.FaultTexts.{play_fault_text};
-ghost use Rattle.cdb_streams.specs.Faults.{IsFaultOfReading, of_script};
+ghost use Rattle.cdb_streams.specs.Faults.{IsFaultOfReading, of_script, of_script_at};
 ghost use Rattle.cdb_streams.specs.Lines.{lines_of};
 ghost use Rattle.cdb_streams.specs.Scripts.{AreCommandsOf, GivesCommands, IsFaultOfScript};
 ghost use Rattle.cdb_streams.specs.Streams.{FailsWhere};
@@ -34,6 +34,19 @@ pub enum ScriptFault {
     /// The script has more than 1,048,576 bytes.
     TooLong,
     NoMemory(NoMemory),
+}
+
+impl ScriptFault {
+    /// The fault of a play or of a race whose script of this number has it.
+    pub fn at(self, script: usize) -> PlayFault
+        ensures { result ≡ of_script_at script self }
+    {
+        match self {
+            ScriptFault::Line(line, fault) => PlayFault::Line(script, line, fault),
+            ScriptFault::TooLong => PlayFault::ScriptTooLong(script),
+            ScriptFault::NoMemory(refused) => PlayFault::NoMemory(refused),
+        }
+    }
 }
 
 /// The text of the fault of a play.

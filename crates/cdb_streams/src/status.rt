@@ -20,15 +20,12 @@ pub fn status_of(fault: &PlayFault) -> u8
     }
 }
 
-/// The status after this fault of a race: 4 to 9.
+/// The status after this fault of a race: 3 to 9.
 pub fn race_status_of(fault: &RaceFault) -> u8
     ensures { result ≡ race_status fault.now }
 {
     match fault {
-        RaceFault::Setup(_) => 4,
-        RaceFault::Line(..) | RaceFault::ScriptTooLong(_) => 5,
-        RaceFault::NoMemory(_) => 6,
-        RaceFault::Write => 7,
+        RaceFault::Play(fault) => status_of(fault),
         RaceFault::JournalFull => 8,
         RaceFault::Spawn(_) | RaceFault::Stopped(_) => 9,
     }

@@ -1,16 +1,5 @@
-pub mod Again
 pub mod Cut
-pub mod Digits
 pub mod Entries
-pub mod FirstFaults
 pub mod Numbers
-pub mod Printed
-pub mod Readers
-pub mod Registers
-pub mod RegisterWords
-pub mod Short
-pub mod Unique
-pub mod Utf8
 pub mod Whole
 pub mod Written
-pub mod RefusalNames

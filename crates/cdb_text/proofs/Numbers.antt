@@ -1,17 +1,26 @@
--- Numbers of one to six digits.
-use Rattle.std.proofs.Common.{◌≡◌, ◌≢◌, ℕ, zero, suc, ◌-◌, ◌^◌, ◌<◌, ◌≤◌, true, ◌&&◌, cond, List, []}
-use Rattle.std.proofs.Common.{◌∷◌, length, take, Option, Some, None, refl, sym, ◌∙◌, arith, inl, inr}
+-- The words that are numbers of one to six digits, and those that are registers.
+use Rattle.std.proofs.Common.{◌≡◌, ◌≢◌, ℕ, zero, suc, ◌-◌, ◌^◌, ◌<◌, ◌≤◌, true, ◌&&◌, cond, List, [], ◌∷◌, length, take, Option, Some, None, refl, sym, ◌∙◌}
+use Rattle.std.proofs.Common.{arith, inl, inr, Bool, false, get_or, bytes_eq}
 use Rattle.std.specs.Prelude.{MatchOption, slice_index, decimal, nat_lt, nat_le}
 use Rattle.std.specs.Str.{all_ascii_digits}
 use Rattle.std.specs.Str.Parse.{AllDigits, digits_value}
 use Rattle.std.proofs.lemmas.Bool.{and_from, and_parts, not-true, cases_Bool, ltb-true, leb-true, lt-ltb, le-leb, eqb-false, ne_eqb}
 use Rattle.std.proofs.lemmas.Bool.Decides.{nat_tests}
-use Rattle.std.proofs.lemmas.Option.{cond_some}
+use Rattle.std.proofs.lemmas.Option.{cond_some, gets}
 use Rattle.std.specs.Char.{digit_value}
 use Rattle.std.proofs.lemmas.List.{length-take}
-use Rattle.std.proofs.lemmas.Str.Parse.{IsNumeralModel, numerals_by_value, tells_all_ascii_digits, tells_digits, digits_value_short}
-use Rattle.std.proofs.lemmas.Fmt.{decimal_digit, digits_decimal, digits_value-decimal, decimal-digits_value, length-decimal-le, decimal_nonempty, first_decimal}
+use Rattle.std.proofs.lemmas.Str.Parse.{IsNumeralModel, numerals_by_value, tells_all_ascii_digits, tells_digits, digits_value_short, digit_at}
+use Rattle.std.proofs.lemmas.Fmt.{decimal_digit, digits_decimal, digits_value-decimal, decimal-digits_value, length-decimal-le, decimal_nonempty}
+use Rattle.std.proofs.lemmas.Fmt.{first_decimal}
 use Rattle.cdb_text.specs.Numbers.{is_number, number_of}
+use Rattle.std.proofs.lemmas.Grind.{common_steps}
+use Rattle.std.proofs.lemmas.Slice.Eq.{bytes_eq-Decides}
+use Rattle.cdb_base.specs.declared.register.Reg.{Reg}
+use Rattle.cdb_text.specs.Commands.{number, register}
+use Rattle.cdb_text.specs.Grammar.{part_text, IsInRange}
+use Rattle.cdb_text.specs.Readers.{register_named}
+
+-- ---- Numbers of one to six digits.
 
 by_all : IsNumeralModel (AllDigits 10) (digits_value 10)
 by_all = numerals_by_value (AllDigits 10) tells_digits
@@ -105,3 +114,37 @@ number_again n low high =
       first = omega arith;
     }) in
     rw (yes, digits_value-decimal by_all n fits) refl
+
+-- ---- The words that are registers, and that a number is no other word.
+
+first_digit : (n : ℕ) → 1 ≤ n → n ≤ 999999 → get_or (decimal n) 0 0 < 97
+first_digit n low high =
+    let digits : AllDigits 10 (decimal n) = digits_decimal (numerals_by_value (AllDigits 10) tells_digits) n (omega arith) in
+    let range = digit_at (decimal n) 0 digits (decimal_nonempty n (omega arith)) in
+    omega (arith, range)
+
+-- the word begins with a letter
+abbrev pub has_letter : List ℕ → Bool
+has_letter word = nat_le 97 (get_or word 0 0)
+
+-- so it is no number
+pub number_is_no_word : (word : List ℕ) (n : ℕ) → has_letter word ≡ true → IsInRange (number n) → bytes_eq (decimal n) word ≡ false
+number_is_no_word word n letter is = grind (arith, common_steps, gets, bytes_eq-Decides, first_digit)
+
+-- each register is read as itself
+pub register_again : (x : Reg) → IsInRange (register x) → register_named (part_text (register x)) ≡ Some x
+unfolding register_named
+register_again x is = grind (arith, common_steps, gets, decimal_digit)
+
+two_bytes : (word : List ℕ) → length word ≡ 2 → word ≡ get_or word 0 0 ∷ get_or word 1 0 ∷ []
+two_bytes word two = grind (arith, common_steps, gets)
+
+-- a word that is read as a register is that register
+pub register_says : (word : List ℕ) (x : Reg) → register_named word ≡ Some x → (word ≡ part_text (register x)) × IsInRange (register x)
+unfolding register_named
+register_says word x e = grind (arith, common_steps, gets, two_bytes, decimal_digit, bytes_eq-Decides)
+
+-- a number is no register
+pub number_is_no_register : (n : ℕ) → IsInRange (number n) → register_named (decimal n) ≡ None
+unfolding register_named
+number_is_no_register n is = let first = first_digit n is.0 is.1 in grind (arith, common_steps, gets, bytes_eq-Decides)

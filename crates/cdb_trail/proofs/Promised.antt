@@ -13,29 +13,29 @@ use Rattle.cdb_trail.proofs.LeaderTrue as leader
 use Rattle.cdb_trail.proofs.RunFlows.{are_true}
 use Rattle.cdb_trail.proofs.Trails.{each_value_has_a_trail, each_decision_has_a_trail, trails_are_unique}
 
-pub leader_flows_are_true : (setup : Parts) → FlowsAreTrue (leader_machine setup) leader_flows setup.inputs
-leader_flows_are_true setup = are_true leader_table leader_flows (λ s. Unit {0}) setup leader.leader_flows_are_true
+pub leader_true : (setup : Parts) → FlowsAreTrue (leader_machine setup) leader_flows setup.inputs
+leader_true setup = are_true leader_table leader_flows (λ s. Unit {0}) setup leader.leader_flows_are_true
 
-pub alpha_flows_are_true : (setup : Parts) → FlowsAreTrue (alpha_machine setup) alpha_flows setup.inputs
-alpha_flows_are_true setup = are_true alpha_table alpha_flows alpha.DecidedLast setup alpha.alpha_flows_are_true
+pub alpha_true : (setup : Parts) → FlowsAreTrue (alpha_machine setup) alpha_flows setup.inputs
+alpha_true setup = are_true alpha_table alpha_flows alpha.DecidedLast setup alpha.alpha_flows_are_true
 
-pub leader_values_have_trails : (setup : Parts) → EachValueHasATrail (leader_machine setup) leader_flows setup.inputs
-leader_values_have_trails setup = each_value_has_a_trail (leader_machine setup) leader_flows setup.inputs (leader_flows_are_true setup) leader.slots_apart
+pub leader_values : (setup : Parts) → EachValueHasATrail (leader_machine setup) leader_flows setup.inputs
+leader_values setup = each_value_has_a_trail (leader_machine setup) leader_flows setup.inputs (leader_true setup) leader.slots_apart
 
-pub alpha_values_have_trails : (setup : Parts) → EachValueHasATrail (alpha_machine setup) alpha_flows setup.inputs
-alpha_values_have_trails setup = each_value_has_a_trail (alpha_machine setup) alpha_flows setup.inputs (alpha_flows_are_true setup) alpha.slots_apart
+pub alpha_values : (setup : Parts) → EachValueHasATrail (alpha_machine setup) alpha_flows setup.inputs
+alpha_values setup = each_value_has_a_trail (alpha_machine setup) alpha_flows setup.inputs (alpha_true setup) alpha.slots_apart
 
 pub leader_trails : (setup : Parts) → EachDecisionHasATrail (leader_machine setup) leader_flows setup.inputs leader_table.decision
 leader_trails setup =
     each_decision_has_a_trail (leader_machine setup) leader_flows setup.inputs
-    (leader_flows_are_true setup) leader.slots_apart leader_table.decision (λ s. refl)
+    (leader_true setup) leader.slots_apart leader_table.decision (λ s. refl)
 
 pub alpha_trails : (setup : Parts) → EachDecisionHasATrail (alpha_machine setup) alpha_flows setup.inputs alpha_table.decision
 alpha_trails setup =
-    each_decision_has_a_trail (alpha_machine setup) alpha_flows setup.inputs (alpha_flows_are_true setup) alpha.slots_apart alpha_table.decision (λ s. refl)
+    each_decision_has_a_trail (alpha_machine setup) alpha_flows setup.inputs (alpha_true setup) alpha.slots_apart alpha_table.decision (λ s. refl)
 
-pub leader_trails_are_unique : (setup : Parts) → TrailsAreUnique (leader_machine setup) leader_flows setup.inputs
-leader_trails_are_unique setup = trails_are_unique (leader_machine setup) leader_flows setup.inputs (leader_flows_are_true setup) leader.slots_apart
+pub leader_unique : (setup : Parts) → TrailsAreUnique (leader_machine setup) leader_flows setup.inputs
+leader_unique setup = trails_are_unique (leader_machine setup) leader_flows setup.inputs (leader_true setup) leader.slots_apart
 
-pub alpha_trails_are_unique : (setup : Parts) → TrailsAreUnique (alpha_machine setup) alpha_flows setup.inputs
-alpha_trails_are_unique setup = trails_are_unique (alpha_machine setup) alpha_flows setup.inputs (alpha_flows_are_true setup) alpha.slots_apart
+pub alpha_unique : (setup : Parts) → TrailsAreUnique (alpha_machine setup) alpha_flows setup.inputs
+alpha_unique setup = trails_are_unique (alpha_machine setup) alpha_flows setup.inputs (alpha_true setup) alpha.slots_apart

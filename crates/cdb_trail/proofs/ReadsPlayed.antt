@@ -31,11 +31,6 @@ module _ {L S : Type 0} (table : Table L) (flows : Flows L S) (run : RunView) wh
       subst (λ (r : RunView). IsInOrder table (with_event r event)) (sym is)
       (subst (λ events. IsSome (fold machine events)) (sym (one_more run.history i event at)) front)
 
-  pub next_along : (i : ℕ) (event : Event) → slice_get run.history i ≡ Some event → (again later : RunView)
-      → again ≡ with_history run (take i run.history) → later ≡ with_event again event
-      → later ≡ with_history run (take (i + 1) run.history)
-  next_along i event at again later along is = is ∙ ap (λ r. with_event r event) along ∙ ap (with_history run) (one_more run.history i event at)
-
   -- the flow is that of the event at position n, and the run that is played again stands as it stood before it
   pub record IsNext (n : ℕ) (again : RunView) (flow : Flow S) : Type 0 where
     pub is : flow ≡ flow_at (machine_in table run) flows run.history n

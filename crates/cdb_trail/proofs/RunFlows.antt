@@ -31,10 +31,10 @@ use Rattle.cdb_rules.specs.Step.{may_lose, after}
 use Rattle.cdb_rules.specs.InputsTaken.{taken_local, input_of, registers_after}
 use Rattle.cdb_rules.proofs.FoldKeeps.{reached_keeps}
 use Rattle.cdb_rules.proofs.Positions.{nth-map, nth-set_nth_same, nth-set_nth_other, nth-update_nth_same, nth-update_nth_other, nth_push_other, nth_push_back}
-use Rattle.cdb_rules.proofs.Stages.{sight_in, meets, sent_after, process_after, state_after}
+use Rattle.cdb_rules.specs.Step.{sight_in, meets, sent_after, process_after, state_after}
 use Rattle.cdb_rules.proofs.Taken.{IsAccepted, IsTaken, mapped, bound, some_of, taken_from, parts, where_true}
 use Rattle.cdb_setup.specs.Parts.{Parts}
-use Rattle.cdb_agreement.proofs.Firsts.{first_of_input, first_cells, first_decision}
+use Rattle.cdb_agreement.proofs.Reached.{first_of_input, first_cells, first_decision}
 use Rattle.cdb_trail.specs.Flow.{Spot, slot, message, register, Flow, still, Flows, value_at, flow_of, flow_by, MayTake, MaySet, IsReached, FlowsAreTrue}
 use Rattle.cdb_trail.proofs.Spots.{same_register}
 

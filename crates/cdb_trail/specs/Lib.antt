@@ -5,7 +5,7 @@ pub mod AlphaFlow
 pub mod Trails
 pub mod Trailed
 pub mod Oracle
-pub mod Written
+pub mod Texts
 pub mod Origins
 -- what the code keeps for itself
 pub mod Played

@@ -10,6 +10,7 @@ ghost use Rattle.cdb_trail.specs.LeaderFlow.{leader_flows};
 ghost use Rattle.cdb_trail.specs.Trails.{EachDecisionHasATrail, TrailsAreUnique};
 
 /// Of both machines: what a step sets is what it takes, and a spot that it does not set keeps its value.
+#[tactic(auto, using(crate::proofs::Promised::leader_true, crate::proofs::Promised::alpha_true))]
 pub fn flows_are_true()
     ensures leader { (setup : Parts) →
         FlowsAreTrue (leader_machine setup) leader_flows setup.inputs }

@@ -2,7 +2,7 @@
 //! do nothing: the contract of each is the law.
 //!
 //! ```text
-//! write_trail(alloc, setup, &mut script, 2, None, &mut output)?;
+//! let text = trail_to_step(alloc, &run, 2, None)?;
 //! ```
 #![tactic(auto)]
 
@@ -14,10 +14,10 @@ mod leader_flow;
 mod oracle;
 mod origins;
 mod played;
+mod text;
 mod trail;
 mod walk;
-mod writes;
 
 pub use origins::{Origin, origins_of};
+pub use text::trail_to_step;
 pub use trail::{Trail, trail_of};
-pub use writes::{text_of_trail_to, write_trail};

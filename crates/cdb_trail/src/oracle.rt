@@ -1,8 +1,6 @@
 //! The oracle's answers on which a trail rests.
 
 ghost use Rattle.cdb_agreement.specs.Algorithms.{rules};
-ghost use Rattle.cdb_deeds.specs.Deeds.{deed_in, received_by_each};
-ghost use Rattle.cdb_explain.specs.Rounds.{round_by};
 ghost use Rattle.cdb_rules.specs.ByRules.{IsInOrder};
 ghost use Rattle.cdb_text.specs.Pushes.{Pushes};
 ghost use Rattle.cdb_trail.specs.Oracle.{trail_events, answers_among, answers_in, answers_text, answers_word};
@@ -13,7 +11,7 @@ ghost use Rattle.std.specs.Prelude.{◌≡◌, ◌==◌, length, map, IfOk};
 use cdb_any_run::AnyRun;
 use cdb_base::{Event, MsgName, NoMemory, Proc, StepId};
 use cdb_deeds::{Deed, HasDeeds, ReceivedNames};
-use cdb_explain::{fresh, round_by, take_next};
+use cdb_explain::{fresh, next_deed, play_on, round_by};
 use cdb_rules::Trace;
 use cdb_text::push_causes;
 use std::alloc::{AllocError, Global};
@@ -109,32 +107,6 @@ fn answers(alloc: Global, all: &[TrailEvent]) -> Result<Vec<StepId>, NoMemory>
     Ok(names)
 }
 
-/// What is told of the event that comes next.
-fn trail_event<T: HasDeeds>(
-    alloc: Global,
-    again: &T,
-    names: &ReceivedNames,
-    event: &Event,
-    on_trail: bool,
-) -> Result<TrailEvent, NoMemory>
-    requires { names.now ≡ received_by_each (T.run again.now).history }
-    ensures { IfOk result (λ it. it
-        ≡ record {
-          event = event.now;
-          deed = deed_in (T.run again.now) event.now;
-          round = round_by T.rules (T.run again.now) event.now;
-          on_trail = on_trail;
-        }) }
-{
-    let deed = again.deed(alloc, names, event)?;
-    Ok(TrailEvent {
-        event: *event,
-        deed,
-        round: round_by(again, event),
-        on_trail,
-    })
-}
-
 /// What is told of all events of the run, where those on the trail are flagged.
 fn trail_events<T: HasDeeds>(
     alloc: Global,
@@ -146,16 +118,20 @@ fn trail_events<T: HasDeeds>(
     ensures { IfOk result (λ all. all.items ≡ trail_events T.rules run.now flags.now) }
 {
     let mut again = fresh::<T>(alloc, run)?;
-    // Its clause says that the parts of the setup are in range.
-    let _ranges = run.setup().n();
-    let events = run.events();
     let mut names = ReceivedNames::none(alloc)?;
+    let events = run.events();
     let mut all = Vec::new(alloc);
     for i in 0..events.len() {
-        let event = &events[i];
-        all.push(trail_event(alloc, &again, &names, event, flags[i])?)?;
-        take_next(alloc, &mut again, event)?;
-        names.add(event)?;
+        let event = events[i];
+        let round = round_by(&again, &event);
+        let deed = next_deed(alloc, &again, &names, run, i)?;
+        play_on(alloc, &mut again, &mut names, run, i)?;
+        all.push(TrailEvent {
+            event,
+            deed,
+            round,
+            on_trail: flags[i],
+        })?;
     }
     Ok(all)
 }

@@ -86,6 +86,7 @@ fn origins_by<P: Flowing>(alloc: Global, run: &Trace) -> Result<Vec<Option<Origi
 ///
 /// Promise: Each event that takes a value has the step before it on its trail, or the process whose input it takes
 /// where its trail begins with it; each other has none. So followed back from a step they give its trail.
+#[tactic(auto, using(crate::proofs::Promised::leader_values, crate::proofs::Promised::alpha_values))]
 pub fn origins_of(alloc: Global, run: &Trace) -> Result<Vec<Option<Origin>>, NoMemory>
     requires { IsInOrder rules run.now }
     ensures { IfOk result (λ origins. AreOrigins run.now.history (IsOriginIn run.now) origins.items) }

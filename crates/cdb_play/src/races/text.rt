@@ -1,84 +1,51 @@
-//! The text of a race is put into a buffer on its way to a writer.
+//! The text of a race.
 
-ghost use Rattle.std.specs.Prelude.{◌≡◌, ◌+◌, ◌≤◌, [], ◌++◌, length, map};
+ghost use Rattle.std.specs.Prelude.{◌≡◌, ◌+◌, ◌≤◌, length, map, IfOk, string_bytes};
 ghost use Rattle.std.specs.List.{flat_map};
 ghost use Rattle.cdb_base.specs.Limits.{MAX_SEATS};
 ghost use Rattle.cdb_commands.specs.ReplyView.{reply_view};
 ghost use Rattle.cdb_race.specs.Races.{all_reply_views};
 ghost use Rattle.cdb_text.specs.Pushes.{Pushes};
 ghost use Rattle.cdb_text.specs.Texts.{text_of};
-ghost use Rattle.cdb_play.specs.Races.{seat_heading, seat_text, seats_text, end_text, verdict_text, have_one_value};
-ghost use Rattle.cdb_play.specs.Races.{text_with};
-ghost use Rattle.cdb_streams.specs.PiecesPut.{Puts};
-ghost use Rattle.cdb_streams.specs.Endings.{pieces_ending};
-ghost use Rattle.cdb_streams.specs.Written.{IsWritten, Only};
+ghost use Rattle.cdb_play.specs.Races.{seat_text, seats_text, end_text, verdict_text, have_one_value, text_with};
 
-use cdb_base::{Proc, Val};
+use cdb_base::{NoMemory, Proc, Val};
 use cdb_control::{Control, Reply, Runs};
-use cdb_streams::{Buffer, OutputFault, Sink, put_reply};
 use cdb_text::{push_number, push_reply};
 use std::alloc::{AllocError, Global};
 
-/// Puts the texts of the replies, one after the other. Each is made in `text`.
-fn put_replies<W: Sink>(
-    replies: &[Reply],
-    text: &mut String,
-    buffer: &mut Buffer,
-    out: &mut W,
-) -> Result<(), OutputFault>
-    ensures { Puts W.stream result out.old buffer.old out.new buffer.new
-        (flat_map text_of (map reply_view replies.now)) }
+/// Adds the texts of the replies, one after the other, at the end of a text.
+fn push_replies(text: &mut String, replies: &[Reply]) -> Result<(), AllocError>
+    ensures { Pushes result text.old text.new (flat_map text_of (map reply_view replies.now)) }
 {
     for reply in replies {
-        put_reply(reply, text, buffer, out)?;
+        push_reply(text, reply)?;
     }
     Ok(())
 }
 
-/// Adds the line with the number of a seat at the end of a text.
-fn push_heading(text: &mut String, seat: u32) -> Result<(), AllocError>
-    ensures { Pushes result text.old text.new (seat_heading seat) }
+/// Adds the line with the number of a seat, and the texts of its replies.
+fn push_seat(text: &mut String, seat: u32, replies: &[Reply]) -> Result<(), AllocError>
+    ensures { Pushes result text.old text.new (seat_text seat (map reply_view replies.now)) }
 {
     text.push_str("seat ")?;
     push_number(text, seat)?;
-    text.push('\n')
+    text.push('\n')?;
+    push_replies(text, replies)
 }
 
-/// Puts the line of a seat, and the texts of its replies. Each is made in `text`.
-fn put_seat<W: Sink>(
-    seat: u32,
-    replies: &[Reply],
-    text: &mut String,
-    buffer: &mut Buffer,
-    out: &mut W,
-) -> Result<(), OutputFault>
-    ensures { Puts W.stream result out.old buffer.old out.new buffer.new
-        (seat_text seat (map reply_view replies.now)) }
+/// Adds seats, numbered from this one, each with its replies.
+fn push_seats(text: &mut String, seat: u32, seats: &[Vec<Reply>]) -> Result<(), AllocError>
+    requires { seat + length seats.now ≤ 65 }
+    ensures { Pushes result text.old text.new (seats_text seat (all_reply_views seats.now)) }
 {
-    text.clear();
-    push_heading(text, seat)?;
-    buffer.put(out, text.as_bytes())?;
-    put_replies(replies, text, buffer, out)
-}
-
-/// Puts seats, numbered from the first, each with its replies.
-fn put_seats<W: Sink>(
-    first: u32,
-    seats: &[Vec<Reply>],
-    text: &mut String,
-    buffer: &mut Buffer,
-    out: &mut W,
-) -> Result<(), OutputFault>
-    requires { first + length seats.now ≤ 65 }
-    ensures { Puts W.stream result out.old buffer.old out.new buffer.new
-        (seats_text first (all_reply_views seats.now)) }
-{
-    let mut seat = first;
-    for replies in seats {
-        put_seat(seat, replies.as_slice(), text, buffer, out)?;
-        seat += 1;
+    match seats {
+        [replies, others @ ..] => {
+            push_seat(text, seat, replies.as_slice())?;
+            push_seats(text, seat + 1, others)
+        }
+        [] => Ok(()),
     }
-    Ok(())
 }
 
 /// Tells whether all decisions have one value, or there are none.
@@ -102,62 +69,31 @@ fn verdict(decisions: &[(Proc, Val)]) -> &'static str
     }
 }
 
-/// Puts the decisions, and whether they agree. Both are made in `text`.
-fn put_end<W: Sink>(
-    decisions: Vec<(Proc, Val)>,
-    text: &mut String,
-    buffer: &mut Buffer,
-    out: &mut W,
-) -> Result<(), OutputFault>
-    ensures { Puts W.stream result out.old buffer.old out.new buffer.new
-        (end_text decisions.items) }
+/// Adds the decisions, and whether they agree.
+fn push_end(text: &mut String, decisions: Vec<(Proc, Val)>) -> Result<(), AllocError>
+    ensures { Pushes result text.old text.new (end_text decisions.items) }
 {
     let verdict = verdict(decisions.as_slice());
     let reply = Reply::Decisions(decisions);
-    text.clear();
     let pushed = push_reply(text, &reply);
     reply.close();
     pushed?;
-    text.push_str(verdict)?;
-    buffer.put(out, text.as_bytes())?;
-    Ok(())
+    text.push_str(verdict)
 }
 
-/// Puts the replies to the seats of the scripts, and then the decisions of the last state. Each text is made in `text`.
-fn put_race<T: Runs, W: Sink>(
+/// The seats of the scripts with these replies, and then the decisions of the last state.
+pub(super) fn text_with<T: Runs>(
     alloc: Global,
     control: &Control<T>,
     replies: &[Vec<Reply>],
-    text: &mut String,
-    buffer: &mut Buffer,
-    out: &mut W,
-) -> Result<(), OutputFault>
+) -> Result<String, NoMemory>
     requires { control.now.setup.processes + length replies.now ≤ MAX_SEATS }
-    ensures { Puts W.stream result out.old buffer.old out.new buffer.new
-        (text_with T.rules control.now (all_reply_views replies.now)) }
+    ensures { IfOk result (λ text.
+        string_bytes text ≡ text_with T.rules control.now (all_reply_views replies.now)) }
 {
     let run = control.run();
-    put_seats(u32::from(run.processes()) + 1, replies, text, buffer, out)?;
-    let decisions = run.decisions(alloc)?;
-    put_end(decisions, text, buffer, out)
-}
-
-/// Puts the same into an empty buffer, and writes what is left in it.
-pub(super) fn write_race<T: Runs, W: Sink>(
-    alloc: Global,
-    control: &Control<T>,
-    replies: &[Vec<Reply>],
-    buffer: Buffer,
-    out: &mut W,
-) -> Result<(), OutputFault>
-    requires seats { control.now.setup.processes + length replies.now ≤ MAX_SEATS }
-    requires empty { buffer ≡ [] }
-    ensures { IsWritten W.stream (pieces_ending result) out.old out.new
-        (Only (text_with T.rules control.now (all_reply_views replies.now))) }
-{
-    let mut buffer = buffer;
     let mut text = String::new(alloc);
-    put_race(alloc, control, replies, &mut text, &mut buffer, out)?;
-    buffer.flush(out)?;
-    Ok(())
+    push_seats(&mut text, u32::from(run.processes()) + 1, replies)?;
+    push_end(&mut text, run.decisions(alloc)?)?;
+    Ok(text)
 }

@@ -5,63 +5,37 @@ ghost use Rattle.std.specs.Result.{result_err};
 ghost use Rattle.cdb_rules.specs.EventRefs.{name_given};
 ghost use Rattle.cdb_rules.specs.Refusals.{IsOfRun};
 ghost use Rattle.cdb_rules.specs.Runs.{step_name, loss_name, CanUndo, LeadsTo, result_of_undo, after_undo};
-ghost use Rattle.cdb_run.specs.Found.{IsNameGiven, IsFound, IsFoundFree};
+ghost use Rattle.cdb_run.specs.Found.{IsFound, IsFoundFree};
+ghost use Rattle.cdb_rules.specs.Undo.{names_processes};
 ghost use Rattle.cdb_standing.specs.Moves.{IsTakenOut};
 
 use crate::run::Run;
-use cdb_base::{CopyName, Event, MsgName, Proc, Refusal, StepId, StepName};
+use cdb_base::{CopyName, Event, Proc, Refusal, StepId};
 use cdb_process::Process;
 use cdb_rules::EventRef;
 
 impl<P: Process> Run<P> {
-    /// The name of the `k`-th step of process `p`; or `NoProcess`, or `NoStep` where no step can have that number.
-    fn name_step(&self, p: u32, k: u32) -> Result<StepId, Refusal>
-        ensures { IsNameGiven self.now (step_name p k) result }
-    {
-        self.proper();
-        let Some(p) = self.process(p) else {
-            return Err(Refusal::NoProcess);
-        };
-        let Ok(k) = u16::try_from(k) else {
-            return Err(Refusal::NoStep);
-        };
-        Ok(StepId::Step(StepName { p, k }))
-    }
-
-    /// The name of the loss of the copy for process `p` of the `m`-th message of process `s`; or `NoProcess` of `s` or
-    /// `p`, or `NoStep` where no message can have that number.
-    fn name_loss(&self, s: u32, m: u32, p: u32) -> Result<StepId, Refusal>
-        ensures { IsNameGiven self.now (loss_name s m p) result }
-    {
-        self.proper();
-        let Some(s) = self.process(s) else {
-            return Err(Refusal::NoProcess);
-        };
-        let Some(to) = self.process(p) else {
-            return Err(Refusal::NoProcess);
-        };
-        let Ok(m) = u16::try_from(m) else {
-            return Err(Refusal::NoStep);
-        };
-        let msg = MsgName { s, m };
-        Ok(StepId::Lost(CopyName { msg, to }))
-    }
-
-    /// The name that is given; or `NoProcess`, or `NoStep` where no event can have that number.
-    fn name(&self, event: EventRef) -> Result<StepId, Refusal>
-        ensures { IsNameGiven self.now (name_given event) result }
+    /// Whether the run has the processes that are named.
+    fn has_processes(&self, event: EventRef) -> bool
+        ensures { result ≡ names_processes self.now.setup.processes (name_given event) }
     {
         match event {
-            EventRef::Step(p, k) => self.name_step(p, k),
-            EventRef::Lost(s, m, p) => self.name_loss(s, m, p),
+            EventRef::Step(p, _) => self.process(p).is_some(),
+            EventRef::Lost(s, _, p) => self.process(s).is_some() && self.process(p).is_some(),
         }
     }
 
     /// The name of a standing event; or the first refusal that holds: `NoProcess` or `NoStep`.
-    pub(crate) fn find(&self, event: EventRef) -> Result<StepId, Refusal>
+    pub fn find(&self, event: EventRef) -> Result<StepId, Refusal>
         ensures { IsFound self.now (name_given event) result }
     {
-        let name = self.name(event)?;
+        self.proper();
+        if !self.has_processes(event) {
+            return Err(Refusal::NoProcess);
+        }
+        let Some(name) = event.id() else {
+            return Err(Refusal::NoStep);
+        };
         let asked = name;
         match self.history().find(asked) {
             Some(_) => Ok(name),

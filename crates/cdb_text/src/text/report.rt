@@ -1,41 +1,16 @@
 //! The texts of what is shown, at the end of a text: processes, registers, mail, history and decisions.
 
-ghost use Rattle.cdb_text.specs.Pushes.{Pushes};
+ghost use Rattle.std.specs.Prelude.{◌+◌, ◌<◌, ◌^◌, length};
 ghost use Rattle.std.specs.List.{flat_map};
-ghost use Rattle.std.specs.Str.{IsUtf8};
-ghost use Rattle.cdb_text.specs.Reports.{value_text, payload_text};
-ghost use Rattle.cdb_text.specs.Reports.{process_text, cause_text, causes_text};
-ghost use Rattle.cdb_text.specs.Reports.{history_text, mail_text};
-ghost use Rattle.cdb_text.specs.Reports.{decision_text, decisions_text};
-ghost use Rattle.cdb_text.specs.Reports.{register_line, decision_line, registers_from, registers_text};
+ghost use Rattle.cdb_text.specs.Pushes.{Pushes};
+ghost use Rattle.cdb_text.specs.Reports.{process_text, causes_text, history_text, mail_text, decisions_text};
+ghost use Rattle.cdb_text.specs.Reports.{registers_from, registers_text};
 
 use super::bytes::push_bytes;
-use super::event::push_name;
-use super::short::MOST_REPORT;
-use super::short_report::{
-    Line, MOST_LINE, write_cell, write_decision, write_decision_line, write_payload, write_value,
-    write_view,
-};
+use super::short::{MOST_BYTES, MOST_REPORT};
+use super::short_report::{Line, MOST_LINE, write_cell, write_decision_line, write_view};
 use cdb_base::{Cell, Event, MsgName, Payload, Proc, ProcView, StepId, Val};
 use std::alloc::AllocError;
-
-/// Adds a value at the end of a text, or `none`. Only out of memory is an error.
-pub fn push_value(text: &mut String, value: Option<Val>) -> Result<(), AllocError>
-    ensures { Pushes result text.old text.new (value_text value) }
-{
-    let mut bytes = [0; MOST_LINE];
-    let end = write_value(&mut bytes, 0, value);
-    push_bytes(text, &bytes[..end])
-}
-
-/// Adds a payload at the end of a text, as `show mail` prints it. Only out of memory is an error.
-pub fn push_payload(text: &mut String, payload: &Payload) -> Result<(), AllocError>
-    ensures { Pushes result text.old text.new (payload_text payload.now) }
-{
-    let mut bytes = [0; MOST_LINE];
-    let end = write_payload(&mut bytes, 0, payload);
-    push_bytes(text, &bytes[..end])
-}
 
 pub(super) fn push_process(text: &mut String, view: &ProcView) -> Result<(), AllocError>
     ensures { Pushes result text.old text.new (process_text view.now) }
@@ -45,13 +20,14 @@ pub(super) fn push_process(text: &mut String, view: &ProcView) -> Result<(), All
     push_bytes(text, &bytes[..end])
 }
 
-/// Each cause after a space.
-fn push_each_cause(text: &mut String, causes: &[StepId]) -> Result<(), AllocError>
-    ensures { Pushes result text.old text.new (flat_map cause_text causes.now) }
+/// The items, one after the other.
+fn push_each<L: Line>(text: &mut String, items: &[L]) -> Result<(), AllocError>
+    ensures { Pushes result text.old text.new (flat_map L.text items.now) }
 {
-    for name in causes {
-        text.push(' ')?;
-        push_name(text, *name)?;
+    for item in items {
+        let mut bytes = [0; MOST_LINE];
+        let end = item.write(&mut bytes, 0);
+        push_bytes(text, &bytes[..end])?;
     }
     Ok(())
 }
@@ -63,20 +39,7 @@ pub fn push_causes(text: &mut String, causes: &[StepId]) -> Result<(), AllocErro
     if causes.is_empty() {
         return text.push_str(" none");
     }
-    push_each_cause(text, causes)
-}
-
-/// Each item in a line.
-fn push_lines<L: Line>(text: &mut String, lines: &[L]) -> Result<(), AllocError>
-    requires utf8 { (line : L) → IsUtf8 (L.text line) }
-    ensures { Pushes result text.old text.new (flat_map L.text lines.now) }
-{
-    for line in lines {
-        let mut bytes = [0; MOST_LINE];
-        let end = line.write(&mut bytes, 0);
-        push_bytes(text, &bytes[..end])?;
-    }
-    Ok(())
+    push_each(text, causes)
 }
 
 pub(super) fn push_history(text: &mut String, events: &[Event]) -> Result<(), AllocError>
@@ -85,7 +48,7 @@ pub(super) fn push_history(text: &mut String, events: &[Event]) -> Result<(), Al
     if events.is_empty() {
         return text.push_str("no steps\n");
     }
-    push_lines(text, events)
+    push_each(text, events)
 }
 
 pub(super) fn push_mail(
@@ -97,26 +60,7 @@ pub(super) fn push_mail(
     if copies.is_empty() {
         return text.push_str("no mail\n");
     }
-    push_lines(text, copies)
-}
-
-/// A decision after a space.
-fn push_decision(text: &mut String, p: Proc, value: Val) -> Result<(), AllocError>
-    ensures { Pushes result text.old text.new (decision_text (p, value)) }
-{
-    let mut bytes = [0; MOST_LINE];
-    let end = write_decision(&mut bytes, 0, p, value);
-    push_bytes(text, &bytes[..end])
-}
-
-/// Each decision after a space.
-fn push_each_decision(text: &mut String, decisions: &[(Proc, Val)]) -> Result<(), AllocError>
-    ensures { Pushes result text.old text.new (flat_map decision_text decisions.now) }
-{
-    for (p, value) in decisions {
-        push_decision(text, *p, *value)?;
-    }
-    Ok(())
+    push_each(text, copies)
 }
 
 pub(super) fn push_decisions(text: &mut String, decisions: &[(Proc, Val)]) -> Result<(), AllocError>
@@ -126,41 +70,24 @@ pub(super) fn push_decisions(text: &mut String, decisions: &[(Proc, Val)]) -> Re
         return text.push_str("decisions none\n");
     }
     text.push_str("decisions")?;
-    push_each_decision(text, decisions)?;
+    push_each(text, decisions)?;
     text.push('\n')
 }
 
-/// The register with this number and what it holds.
-fn push_register_line(text: &mut String, number: usize, cell: &Cell) -> Result<(), AllocError>
-    ensures { Pushes result text.old text.new (register_line number cell.now) }
+/// The registers from this number on, the last of which is that of the decision.
+fn push_registers_from(text: &mut String, number: usize, cells: &[Cell]) -> Result<(), AllocError>
+    requires { number + length cells.now < 2 ^ 64 }
+    ensures { Pushes result text.old text.new (registers_from number cells.now) }
 {
-    write!(text, "r{number}")?;
-    let mut bytes = [0; MOST_LINE];
-    let end = write_cell(&mut bytes, 0, cell);
-    push_bytes(text, &bytes[..end])
-}
-
-/// The cell of the decision.
-fn push_decision_line(text: &mut String, cell: &Cell) -> Result<(), AllocError>
-    ensures { Pushes result text.old text.new (decision_line cell.now) }
-{
-    let mut bytes = [0; MOST_LINE];
-    let end = write_decision_line(&mut bytes, 0, cell);
-    push_bytes(text, &bytes[..end])
-}
-
-/// The registers of the processes, and then that of the decision.
-fn push_each_register(text: &mut String, cells: &[Cell]) -> Result<(), AllocError>
-    ensures { Pushes result text.old text.new (registers_from 1 cells.now) }
-{
-    for (position, cell) in cells.iter().enumerate() {
-        if position + 1 < cells.len() {
-            push_register_line(text, position + 1, cell)?;
-        } else {
-            push_decision_line(text, cell)?;
+    match cells {
+        [] => Ok(()),
+        [cell] => push_written!(text, write_decision_line(cell)),
+        [cell, others @ ..] => {
+            write!(text, "r{number}")?;
+            push_written!(text, write_cell(cell))?;
+            push_registers_from(text, number + 1, others)
         }
     }
-    Ok(())
 }
 
 pub(super) fn push_registers(text: &mut String, cells: &[Cell]) -> Result<(), AllocError>
@@ -169,5 +96,5 @@ pub(super) fn push_registers(text: &mut String, cells: &[Cell]) -> Result<(), Al
     if cells.is_empty() {
         return text.push_str("no registers\n");
     }
-    push_each_register(text, cells)
+    push_registers_from(text, 1, cells)
 }

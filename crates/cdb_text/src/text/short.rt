@@ -1,19 +1,19 @@
 //! Short texts: of numbers, names and events, and of the replies to most commands. Each is written in bytes that
 //! are there, from some byte on, and takes no memory. So the most replies of a run are written where they are held.
 
-ghost use Rattle.std.specs.Prelude.{◌≡◌, ◌+◌, ◌/◌, ◌%◌, ◌<◌, ◌≤◌, ◌∷◌, [], ◌++◌, codes, decimal, length, MatchOption};
+ghost use Rattle.std.specs.Prelude.{◌≡◌, ◌+◌, ◌*◌, ◌/◌, ◌%◌, ◌<◌, ◌≤◌, ◌∷◌, [], ◌++◌, true};
+ghost use Rattle.std.specs.Prelude.{codes, decimal, length, MatchOption};
 ghost use Rattle.cdb_base.specs.NameTexts.{name_text, step_text, message_text, loss_text, register_text};
 ghost use Rattle.cdb_base.specs.Refusal.{refusal_name, refusal_detail, refusal_text};
 ghost use Rattle.cdb_commands.specs.ReplyView.{reply_view};
 ghost use Rattle.cdb_text.specs.Events.{event_text, kind_text};
-ghost use Rattle.cdb_text.specs.Pushes.{Writes};
+ghost use Rattle.cdb_text.specs.Pushes.{Writes, all_ascii};
 ghost use Rattle.cdb_text.specs.Texts.{break_text, decides_text, text_of};
-ghost use Rattle.cdb_text.specs.declared.text.short.TheConstants.{MOST_BYTES, MOST_CAUSES, MOST_OF_A_CAUSE};
-ghost use Rattle.cdb_text.specs.declared.text.short.TheConstants.{MOST_REPORT};
-ghost use Rattle.cdb_text.specs.Reports.{cause_text, causes_text};
-ghost use Rattle.std.specs.List.{flat_map};
-ghost use Rattle.std.specs.Prelude.{◌*◌};
+ghost use Rattle.cdb_text.specs.declared.text.short.TheConstants.{MOST_BYTES, MOST_CAUSES, MOST_REPORT};
+ghost use Rattle.cdb_text.specs.declared.text.short_report.TheConstants.{MOST_LINE};
+ghost use Rattle.cdb_text.specs.Reports.{causes_text};
 
+use super::short_report::write_each;
 use cdb_base::{CopyName, Event, Kind, MsgName, Proc, Refusal, Reg, StepId, StepName, Val};
 use cdb_commands::Reply;
 use itoa::Buffer;
@@ -26,7 +26,7 @@ pub const MOST_REPORT: usize = 640;
 
 #[inline(always)]
 pub(super) fn write_byte(bytes: &mut [u8], from: usize, byte: u8) -> usize
-    requires { from < length bytes.old }
+    requires { (byte < 128) × (from < length bytes.old) }
     ensures written { Writes from result bytes.old bytes.new (byte ∷ []) }
     ensures end { result ≡ from + 1 }
 {
@@ -36,7 +36,7 @@ pub(super) fn write_byte(bytes: &mut [u8], from: usize, byte: u8) -> usize
 
 #[inline(always)]
 pub(super) fn write_word(bytes: &mut [u8], from: usize, word: &str) -> usize
-    requires { from + length word.now ≤ length bytes.old }
+    requires { (all_ascii word.now ≡ true) × (from + length word.now ≤ length bytes.old) }
     ensures written { Writes from result bytes.old bytes.new word.now }
     ensures end { result ≡ from + length word.now }
 {
@@ -67,7 +67,7 @@ fn write_two_digits(bytes: &mut [u8], from: usize, number: u32) -> usize
 }
 
 /// A number of one or two digits.
-#[tactic(auto, using(std::proofs::lemmas::Fmt::decimal_digit, crate::proofs::Digits::two_digits))]
+#[tactic(auto, using(std::proofs::lemmas::Fmt::decimal_digit, crate::proofs::Written::two_digits))]
 #[inline(always)]
 fn write_few_digits(bytes: &mut [u8], from: usize, number: u32) -> usize
     requires { (number < 100) × (from + 2 ≤ length bytes.old) }
@@ -81,6 +81,7 @@ fn write_few_digits(bytes: &mut [u8], from: usize, number: u32) -> usize
 }
 
 /// A number of any length.
+#[tactic(auto, using(crate::proofs::Written::number_is_ascii))]
 #[inline(never)]
 fn write_long(bytes: &mut [u8], from: usize, number: u32) -> usize
     requires { from + 10 ≤ length bytes.old }
@@ -92,7 +93,7 @@ fn write_long(bytes: &mut [u8], from: usize, number: u32) -> usize
 }
 
 /// A number of two digits or more.
-#[tactic(auto, using(crate::proofs::Digits::two_digits))]
+#[tactic(auto, using(crate::proofs::Written::two_digits))]
 #[inline(never)]
 fn write_digits(bytes: &mut [u8], from: usize, number: u32) -> usize
     requires { (10 ≤ number) × (from + 10 ≤ length bytes.old) }
@@ -340,7 +341,7 @@ fn write_detail(bytes: &mut [u8], from: usize, refusal: &Refusal) -> usize
 }
 
 /// The word of a refusal, which is short.
-#[tactic(auto, using(crate::proofs::RefusalNames::name_is_short))]
+#[tactic(auto, using(crate::proofs::Written::name_is_short, crate::proofs::Written::name_is_ascii))]
 fn write_refusal_name(bytes: &mut [u8], from: usize, refusal: &Refusal) -> usize
     requires { from + 13 ≤ length bytes.old }
     ensures written { Writes from result bytes.old bytes.new (refusal_name refusal.now) }
@@ -382,42 +383,16 @@ pub fn write_short_reply(bytes: &mut [u8], from: usize, reply: &Reply) -> Option
     Some(end)
 }
 
-/// As many bytes as the text of a cause has at most.
-const MOST_OF_A_CAUSE: usize = 23;
-
-fn write_cause(bytes: &mut [u8], from: usize, name: StepId) -> usize
-    requires { from + MOST_OF_A_CAUSE ≤ length bytes.old }
-    ensures written { Writes from result bytes.old bytes.new (cause_text name) }
-    ensures end { result ≤ from + MOST_OF_A_CAUSE }
-{
-    let next = write_byte(bytes, from, b' ');
-    write_name(bytes, next, name)
-}
-
-fn write_each_cause(bytes: &mut [u8], from: usize, causes: &[StepId]) -> usize
-    requires { from + MOST_OF_A_CAUSE * length causes.now ≤ length bytes.old }
-    ensures written { Writes from result bytes.old bytes.new (flat_map cause_text causes.now) }
-    ensures end { result ≤ from + MOST_OF_A_CAUSE * length causes.now }
-{
-    match causes {
-        [name, others @ ..] => {
-            let next = write_cause(bytes, from, *name);
-            write_each_cause(bytes, next, others)
-        }
-        [] => from,
-    }
-}
-
 /// The names of causes, or ` none`.
 fn write_causes(bytes: &mut [u8], from: usize, causes: &[StepId]) -> usize
-    requires { from + 5 + MOST_OF_A_CAUSE * length causes.now ≤ length bytes.old }
+    requires { from + 5 + MOST_LINE * length causes.now ≤ length bytes.old }
     ensures written { Writes from result bytes.old bytes.new (causes_text causes.now) }
-    ensures end { result ≤ from + 5 + MOST_OF_A_CAUSE * length causes.now }
+    ensures end { result ≤ from + 5 + MOST_LINE * length causes.now }
 {
     if causes.is_empty() {
         return write_word(bytes, from, " none");
     }
-    write_each_cause(bytes, from, causes)
+    write_each(bytes, from, causes)
 }
 
 /// How many causes an event has at most whose text is short.

@@ -3,33 +3,35 @@
 ghost use Rattle.std.specs.Prelude.{◌≡◌, ◌+◌, ◌*◌, ◌≤◌, List, ℕ, [], ◌∷◌, ◌++◌, codes, decimal, length};
 ghost use Rattle.std.specs.List.{flat_map};
 ghost use Rattle.cdb_text.specs.Pushes.{Writes};
-ghost use Rattle.cdb_text.specs.Reports.{value_text, payload_text, copy_line, event_line, process_text};
+ghost use Rattle.cdb_text.specs.Reports.{value_text, payload_text, copy_line, event_line, cause_text, process_text};
 ghost use Rattle.cdb_text.specs.Reports.{machine_letter, life_word, decision_text, decisions_text};
 ghost use Rattle.cdb_text.specs.Reports.{register_line, decision_line, registers_from, registers_text};
 ghost use Rattle.cdb_text.specs.declared.text.short.TheConstants.{MOST_REPORT};
 ghost use Rattle.cdb_text.specs.declared.text.short_report.TheConstants.{MOST_ITEMS, MOST_LINE, MOST_OF_A_CELL};
-ghost use Rattle.cdb_text.specs.declared.text.short_report.TheConstants.{MOST_OF_A_REGISTER, MOST_OF_A_DECISION};
+ghost use Rattle.cdb_text.specs.declared.text.short_report.TheConstants.{MOST_OF_A_REGISTER};
 
 use super::short::{
-    MOST_REPORT, write_byte, write_event, write_message, write_number, write_process, write_word,
+    MOST_REPORT, write_byte, write_event, write_message, write_name, write_number, write_process,
+    write_word,
 };
-use cdb_base::{Cell, Event, MsgName, Payload, Proc, ProcView, Val};
+use cdb_base::{Cell, Event, MsgName, Payload, Proc, ProcView, StepId, Val};
 
 /// How many registers a report shows at most that is short, or decisions.
 pub const MOST_ITEMS: usize = 10;
 
-/// As many bytes as a line of a long report has at most.
-pub const MOST_LINE: usize = 64;
+/// As many bytes as a line of a long report has at most, or another part of a report.
+pub const MOST_LINE: usize = 60;
 
-/// What a long report shows in a line.
+/// What a report shows one after the other: each in a line, or after a space.
 pub trait Line {
-    /// The line.
+    /// The line, or what stands in it.
     ghost text: { Self → List ℕ };
 
-    /// Writes the line from this byte on, where there must be room for `MOST_LINE`, and returns where it ends.
+    /// Writes the text from this byte on, where there must be room for `MOST_LINE`, and returns where it ends.
     fn write(&self, bytes: &mut [u8], from: usize) -> usize
         requires { from + MOST_LINE ≤ length bytes.old }
-        ensures { Writes from result bytes.old bytes.new (text self.now) };
+        ensures written { Writes from result bytes.old bytes.new (text self.now) }
+        ensures end { result ≤ from + MOST_LINE };
 }
 
 /// A line of `show history`.
@@ -57,6 +59,46 @@ impl Line for (Proc, MsgName, Payload) {
         let next = write_byte(bytes, next, b' ');
         let next = write_payload(bytes, next, payload);
         write_byte(bytes, next, b'\n')
+    }
+}
+
+/// A cause.
+impl Line for StepId {
+    ghost text = { cause_text };
+
+    #[inline(always)]
+    fn write(&self, bytes: &mut [u8], from: usize) -> usize {
+        let next = write_byte(bytes, from, b' ');
+        write_name(bytes, next, *self)
+    }
+}
+
+/// A decision.
+impl Line for (Proc, Val) {
+    ghost text = { decision_text };
+
+    #[inline(always)]
+    fn write(&self, bytes: &mut [u8], from: usize) -> usize {
+        let (p, value) = self;
+        let next = write_byte(bytes, from, b' ');
+        let next = write_process(bytes, next, *p);
+        let next = write_byte(bytes, next, b'=');
+        write_number(bytes, next, value.number())
+    }
+}
+
+/// The items, one after the other.
+pub(super) fn write_each<L: Line>(bytes: &mut [u8], from: usize, items: &[L]) -> usize
+    requires { from + MOST_LINE * length items.now ≤ length bytes.old }
+    ensures written { Writes from result bytes.old bytes.new (flat_map L.text items.now) }
+    ensures end { result ≤ from + MOST_LINE * length items.now }
+{
+    match items {
+        [item, others @ ..] => {
+            let next = item.write(bytes, from);
+            write_each(bytes, next, others)
+        }
+        [] => from,
     }
 }
 
@@ -100,36 +142,37 @@ pub(super) fn write_payload(bytes: &mut [u8], from: usize, payload: &Payload) ->
     }
 }
 
-/// The letter of the machine.
+/// The letter of the machine, after a space.
 fn machine_letter(alpha: bool) -> &'static str
-    ensures { result.now ≡ machine_letter alpha }
+    ensures { result.now ≡ codes " " ++ machine_letter alpha }
 {
-    if alpha { "A" } else { "L" }
+    if alpha { " A" } else { " L" }
 }
 
-/// Whether the process is alive, in a word.
+/// Whether the process is alive, in a word after a space.
 fn life_word(alive: bool) -> &'static str
-    ensures { result.now ≡ life_word alive }
+    ensures { result.now ≡ codes " " ++ life_word alive }
 {
-    if alive { "alive" } else { "crashed" }
+    if alive { " alive" } else { " crashed" }
 }
 
-/// The process and its place in the algorithm.
+/// The process, its place in the algorithm, and whether it is alive.
 fn write_place(bytes: &mut [u8], from: usize, view: &ProcView) -> usize
-    requires { from + 45 ≤ length bytes.old }
+    requires { from + 53 ≤ length bytes.old }
     ensures written { Writes from result bytes.old bytes.new
         (codes "process " ++ decimal (view.now).p
         ++ codes " " ++ machine_letter (view.now).alpha ++ decimal (view.now).place
-        ++ codes " round " ++ decimal (view.now).round) }
-    ensures end { result ≤ from + 45 }
+        ++ codes " round " ++ decimal (view.now).round
+        ++ codes " " ++ life_word (view.now).alive) }
+    ensures end { result ≤ from + 53 }
 {
     let next = write_word(bytes, from, "process ");
     let next = write_process(bytes, next, view.p);
-    let next = write_byte(bytes, next, b' ');
     let next = write_word(bytes, next, machine_letter(view.alpha));
     let next = write_number(bytes, next, u32::from(view.place));
     let next = write_word(bytes, next, " round ");
-    write_number(bytes, next, view.round)
+    let next = write_number(bytes, next, view.round);
+    write_word(bytes, next, life_word(view.alive))
 }
 
 /// Writes the text of a process from this byte on, where there must be room for `MOST_REPORT`, and returns where it
@@ -139,8 +182,6 @@ pub fn write_view(bytes: &mut [u8], from: usize, view: &ProcView) -> usize
     ensures { Writes from result bytes.old bytes.new (process_text view.now) }
 {
     let next = write_place(bytes, from, view);
-    let next = write_byte(bytes, next, b' ');
-    let next = write_word(bytes, next, life_word(view.alive));
     let next = write_word(bytes, next, " steps ");
     let next = write_number(bytes, next, view.steps);
     let next = write_word(bytes, next, " queries ");
@@ -148,36 +189,6 @@ pub fn write_view(bytes: &mut [u8], from: usize, view: &ProcView) -> usize
     let next = write_word(bytes, next, " decision ");
     let next = write_value(bytes, next, view.decision);
     write_byte(bytes, next, b'\n')
-}
-
-/// As many bytes as the text of a decision has at most.
-const MOST_OF_A_DECISION: usize = 13;
-
-/// A decision after a space.
-#[inline(always)]
-pub(super) fn write_decision(bytes: &mut [u8], from: usize, p: Proc, value: Val) -> usize
-    requires { from + MOST_OF_A_DECISION ≤ length bytes.old }
-    ensures written { Writes from result bytes.old bytes.new (decision_text (p, value)) }
-    ensures end { result ≤ from + MOST_OF_A_DECISION }
-{
-    let next = write_byte(bytes, from, b' ');
-    let next = write_process(bytes, next, p);
-    let next = write_byte(bytes, next, b'=');
-    write_number(bytes, next, value.number())
-}
-
-fn write_each_decision(bytes: &mut [u8], from: usize, decisions: &[(Proc, Val)]) -> usize
-    requires { from + MOST_OF_A_DECISION * length decisions.now ≤ length bytes.old }
-    ensures written { Writes from result bytes.old bytes.new (flat_map decision_text decisions.now) }
-    ensures end { result ≤ from + MOST_OF_A_DECISION * length decisions.now }
-{
-    match decisions {
-        [(p, value), others @ ..] => {
-            let next = write_decision(bytes, from, *p, *value);
-            write_each_decision(bytes, next, others)
-        }
-        [] => from,
-    }
 }
 
 /// Writes the text of decisions, at most `MOST_ITEMS`, from this byte on, where there must be room for `MOST_REPORT`,
@@ -191,7 +202,7 @@ pub fn write_decisions(bytes: &mut [u8], from: usize, decisions: &[(Proc, Val)])
         return write_word(bytes, from, "decisions none\n");
     }
     let next = write_word(bytes, from, "decisions");
-    let next = write_each_decision(bytes, next, decisions);
+    let next = write_each(bytes, next, decisions);
     write_byte(bytes, next, b'\n')
 }
 

@@ -1,4 +1,4 @@
-use Rattle.cdb_agreement.proofs.Agreed.{leader_proposes}
+use Rattle.cdb_agreement.proofs.Lawful.{leader_proposes}
 use Rattle.cdb_agreement.proofs.agreement.leader_decisions_are_proposed.Goals as goal
 
 pub returns : goal.returns

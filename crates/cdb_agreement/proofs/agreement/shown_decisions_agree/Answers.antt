@@ -1,4 +1,4 @@
-use Rattle.cdb_agreement.proofs.Agreed.{agreed}
+use Rattle.cdb_agreement.proofs.Lawful.{agreed}
 use Rattle.cdb_agreement.proofs.agreement.shown_decisions_agree.Goals as goal
 
 pub returns : goal.returns

@@ -1,5 +1,4 @@
-use Rattle.cdb_rules.proofs.WhereOk.{undone_free, undone_back}
-use Rattle.cdb_rules.proofs.AllStanding.{free_undone, needed_refused, new_undone}
+use Rattle.cdb_rules.proofs.Undo.{undone_free, undone_back, free_undone, needed_refused, new_undone}
 use Rattle.cdb_agreement.proofs.laws.granted_undo.Goals as goal
 
 pub returns-clause-undone : goal.returns-clause-undone

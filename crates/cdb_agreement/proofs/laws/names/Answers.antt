@@ -1,5 +1,5 @@
-use Rattle.cdb_rules.proofs.NamedEvents.{names_differ}
-use Rattle.cdb_rules.proofs.AllStanding.{valid_named}
+use Rattle.cdb_rules.proofs.ValidHistories.{names_differ}
+use Rattle.cdb_rules.proofs.Undo.{valid_named}
 use Rattle.cdb_agreement.proofs.laws.names.Goals as goal
 
 pub returns-clause-apart : goal.returns-clause-apart

@@ -1,4 +1,4 @@
-use Rattle.cdb_agreement.proofs.KeptHistories.{rules_keep_histories}
+use Rattle.cdb_agreement.proofs.Lawful.{rules_keep_histories}
 use Rattle.cdb_agreement.proofs.laws.rules_keep_histories.Goals as goal
 
 pub returns : goal.returns

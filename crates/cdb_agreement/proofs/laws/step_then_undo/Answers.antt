@@ -1,4 +1,4 @@
-use Rattle.cdb_rules.proofs.AllStanding.{last_undone}
+use Rattle.cdb_rules.proofs.Undo.{last_undone}
 use Rattle.cdb_agreement.proofs.laws.step_then_undo.Goals as goal
 
 pub returns-clause-undone : goal.returns-clause-undone

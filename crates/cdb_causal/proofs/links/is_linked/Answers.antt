@@ -1,5 +1,5 @@
 use Rattle.std.proofs.Common.{arith}
-use Rattle.cdb_causal.proofs.Linked.{item_one, link_decided}
+use Rattle.cdb_causal.proofs.Walks.{item_one, link_decided}
 use Rattle.cdb_causal.proofs.links.is_linked.Goals as goal
 
 pub returns-then-i-j : goal.returns-then-i-j

@@ -2,9 +2,10 @@ use Rattle.std.proofs.Common.{◌≡◌, ℕ, suc, ◌+◌, List, [], ◌∷◌,
 use Rattle.std.proofs.lemmas.Option.{same_Some}
 use Rattle.cdb_base.specs.declared.event.Event.{Event}
 use Rattle.cdb_base.specs.declared.event.Event.TheVariants.{Step}
-use Rattle.cdb_causal.proofs.Lists.{nth_front, nth_within}
-use Rattle.cdb_clocks.proofs.Next.{at_end, last_position, no_rows_kept, stands_from}
+use Rattle.cdb_causal.proofs.Lists.{nth_front, nth_within, push_back}
+use Rattle.cdb_clocks.proofs.Next.{last_position, no_rows_kept}
 use Rattle.cdb_rules.proofs.Flagged.{item_at}
+use Rattle.cdb_rules.proofs.Undo.{stands_from_one}
 use Rattle.cdb_standing.specs.Tables.{rows_in}
 use Rattle.cdb_clocks.proofs.clock.clocks_of.Goals as goal
 
@@ -13,7 +14,7 @@ loop-event-init c = record {
   nine = c.in_ok-rows.ensures.count;
   kept = no_rows_kept c.args.history.now (rows_in c.in_ok-rows.rows.items) c.in_ok-rows.ensures.empty;
   number = ap length c.new-clocks.ensures.items;
-  clocks = λ at p k kind there few. absurd (let low = stands_from c.args.history.now at (Step p k kind) there in omega (arith, few, low));
+  clocks = λ at p k kind there few. absurd (let low = stands_from_one c.args.history.now at (Step p k kind) there in omega (arith, few, low));
 }
 
 pub add_next-requires-clause-stands : goal.add_next-requires-clause-stands
@@ -41,7 +42,7 @@ loop-event-preserved c =
             | inl before ↦ let old = was.clocks at p k kind there before in (old.0, rw pushed (nth_front c.loop-event.clocks.items clock old.0 at old.1), old.2)
             | inr last ↦ let same = same_Some event (Step p k kind) (sym here ∙ (rw last at there)) in (
               clock,
-              rw pushed (at_end c.loop-event.clocks.items clock at (last ∙ ap suc (sym was.number))),
+              rw (pushed, last ∙ ap suc (sym was.number)) (push_back c.loop-event.clocks.items clock),
               rw last (rw same at next.1),
             )
           ];

@@ -15,11 +15,11 @@ pub returns : goal.returns
 unfolding marked_text
 returns g c =
     let decided = c.decision_by-decided.ensures in
-    let begun = c.begun-begun.ensures in
+    let begun = c.begun.ensures in
     texts c.class.ensures (ap point_text (rw c.lane_of.ensures at c.spot-at.ensures.value))
-    (rw decided at c.ring-ring.ensures) (rw begun at c.tick-tick.ensures) c.shape_of.ensures
-    c.first_row.ensures c.second_row.ensures c.third_row.ensures (rw decided at c.below_place-place.ensures)
-    (rw decided at c.below-below.ensures) (rw begun at c.note-note.ensures)
+    (rw decided at c.ring.ensures.ring) (rw begun at c.tick.ensures.tick) c.rows.ensures.shape
+    c.rows.ensures.first c.rows.ensures.second c.rows.ensures.third (rw decided at c.ring.ensures.place)
+    (rw decided at c.below-below.ensures) (rw begun at c.tick.ensures.note)
     (λ weight at ring tick shape first second third place below note.
     concat (codes "<g class='" ∷ weight ∷ codes "' transform='translate(" ∷ at ∷ codes ")'><title>" ∷ c.args.whole.now
     ∷ codes "</title>" ∷ ring ∷ tick ∷ codes "<use href='#" ∷ shape ∷ codes "'/><text y='-37'>" ∷ first ∷ codes "</text><text y='-26'>" ∷ second

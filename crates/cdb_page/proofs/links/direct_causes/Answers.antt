@@ -1,5 +1,5 @@
 use Rattle.std.proofs.Common.{◌≡◌, length, arith}
-use Rattle.cdb_causal.proofs.Linked.{false_only}
+use Rattle.cdb_causal.proofs.Walks.{false_only}
 use Rattle.cdb_page.proofs.ListItems.{none_found, found_in, found_out}
 use Rattle.cdb_page.proofs.links.direct_causes.Goals as goal
 use Rattle.cdb_page.proofs.links.direct_causes.Goals.{then-is_direct_cause+in_ok-push, else-is_direct_cause}

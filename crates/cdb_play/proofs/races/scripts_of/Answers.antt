@@ -14,7 +14,7 @@ returns-in-Err-clause-fault c =
     let before = bytes_of (take i scripts) in
     let position : c.len.result + 1 ≡ length before + 1 =
     omega (arith, c.loop-script.read.ok.0, length-map (take i scripts) (λ (s : Vec ℕ Global). s.items), length-take i scripts) in
-    rw c.fault_of_script.ensures
+    rw c.at.ensures
     (bad_script c.loop-script.read.items before _ _ _ _ (parted_map scripts i c.script-item.is c.loop-script-test.true (λ s. s.items)) position so.read _
     (rw c.as_slice.ensures.value at c.in-Err.ensures.fault))
 
@@ -34,5 +34,5 @@ loop-script-preserved c =
 
 pub returns-in-Err-push-clause-fault : goal.returns-in-Err-push-clause-fault
 returns-in-Err-push-clause-fault c =
-    rw (parted_map _ c.loop-script.script-index c.script-item.is c.loop-script-test.true (λ s. s.items))
+    rw (c.from-in-Err-push.ensures, parted_map _ c.loop-script.script-index c.script-item.is c.loop-script-test.true (λ s. s.items))
     (first_so_far _ _ _ _ c.loop-script.invariant.read (rw c.as_slice.ensures.value at c.in-Ok.ensures.short))

@@ -1,9 +1,7 @@
-use Rattle.std.proofs.Common.{◌≡◌, ◌∙◌, ℕ, List, Some, Bor, ap, refl, inl, inr, ◌∷◌, []}
-use Rattle.cdb_streams.specs.declared.input.Bytes.{Bytes}
+use Rattle.std.proofs.Common.{refl, inl, inr, ◌∷◌, []}
 use Rattle.std.proofs.lemmas.Result.{err_from_is_err_and}
-use Rattle.cdb_program.proofs.Seen.{text_seen}
-use Rattle.cdb_program.specs.TextsOfRuns.{as_answer_fault}
-use Rattle.cdb_program.specs.Known.{in_memory}
+use Rattle.cdb_program.proofs.WrittenTexts.{fails_after, made_written}
+use Rattle.cdb_program.specs.Questions.{Answers, IsFaultOfQuestion}
 use Rattle.cdb_program.proofs.questions.answer_files.Goals as goal
 
 pub returns-in_err-json-clause-does : goal.returns-in_err-json-clause-does
@@ -15,21 +13,19 @@ pub returns-clause-does : goal.returns-clause-does
 returns-clause-does g c =
     let json = c.in_ok-json.json.items in
     let bytes = c.in_ok-json.bytes.items in
-    let said = c.answer-answered.ensures in
-    let json_is : c.as_slice-2.result.now ≡ json = c.as_slice-2.ensures.value in
-    let bytes_is : c.new-commands.result.rest.now ≡ bytes = ap (λ (b : Bor (List ℕ)). b.now) c.new-commands.ensures ∙ c.as_slice.ensures.value in
+    let said = rw (c.as_slice.ensures.value, c.as_slice-2.ensures.value) at c.answer-made.ensures in
+    let question = c.args.question in
     rw (← c.world.view_is) (
       refl,
       inr (
         json ∷ bytes ∷ [],
         c.in_ok-json.ensures,
         (
-          c.answer-answered.result,
-          Some c.answer-answered.new.script.rest.now,
+          c.write_made.result,
           c.of_answer.ensures,
-          rw (← json_is, ← bytes_is)
-              (text_seen (λ (b : Bytes). in_memory (Some b.rest.now)) g.O.Sink.stream as_answer_fault c.answer-answered.result _ _ _
-              c.new-commands.result c.answer-answered.new.script _ _ said.wrote said.fault said.unread said.read),
+          made_written g.O.Sink.stream (Answers question json bytes) (IsFaultOfQuestion question json bytes) (λ never. never)
+              (λ text is. fails_after (IsFaultOfQuestion question json bytes) json bytes is.0 is.1 (λ why so. so))
+              c.answer-made.result c.write_made.result _ _ said.text said.fault c.write_made.ensures,
         ),
       ),
     )

@@ -1,8 +1,9 @@
 use Rattle.std.proofs.Common.{◌≡◌, inr, ◌+◌, length, refl, arith}
-use Rattle.cdb_race.specs.declared.threads.ThreadFault.TheVariants as fault
-use Rattle.cdb_race.proofs.Outcomes.{all_ready, all_rest, filled, many, raced, some_of}
+use Rattle.cdb_race.proofs.Outcomes.{all_ready, all_rest, filled, many, raced}
+use Rattle.cdb_shared.proofs.Ends.{some_of}
 use Rattle.cdb_race.proofs.Most.{few_calls}
 use Rattle.cdb_race.proofs.Stops.{least_seat, of_last, passes_or_threads}
+use Rattle.cdb_streams.specs.declared.fault.RaceFault.TheVariants as fault
 use Rattle.cdb_race.proofs.threads.race.Goals as goal
 
 pub run_all-requires-clause-ready : goal.run_all-requires-clause-ready

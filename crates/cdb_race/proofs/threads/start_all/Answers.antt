@@ -9,9 +9,9 @@ pub loop-seat-init : goal.loop-seat-init
 loop-seat-init g c = record {
   ready = c.requires.ready;
   gates = c.requires.gates;
-  count = omega (arith, c.in-Ok.ensures.len);
-  room = omega (arith, c.in-Ok.ensures.capacity, c.len.ensures);
-  plan_is = λ k handle low. absurd (omega (arith, low, c.in-Ok.ensures.len, c.in-Ok.handles.ok.0));
+  count = omega (arith, c.in_ok-handles.ensures.len);
+  room = omega (arith, c.in_ok-handles.ensures.capacity, c.len.ensures);
+  plan_is = λ k handle low. absurd (omega (arith, low, c.in_ok-handles.ensures.len, c.in_ok-handles.handles.ok.0));
   seats_are = grind (arith, common_steps, gets);
   gates_are = grind (arith, common_steps, gets);
 }

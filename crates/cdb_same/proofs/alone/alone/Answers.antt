@@ -4,7 +4,7 @@ use Rattle.cdb_base.specs.declared.event.Event.{Event}
 use Rattle.cdb_causal.specs.Exchange.{IsIn}
 use Rattle.cdb_rules.proofs.Flagged.{item_at}
 use Rattle.cdb_rules.proofs.ListMembers.{position_in}
-use Rattle.cdb_rules.proofs.NamedEvents.{in_position}
+use Rattle.cdb_rules.proofs.ValidHistories.{in_position}
 use Rattle.cdb_same.proofs.alone.alone.Goals as goal
 
 pub returns-then-not-stands : goal.returns-then-not-stands

@@ -2,7 +2,7 @@ use Rattle.std.proofs.Common.{◌≡◌, ℕ, suc, ◌+◌, length, refl, sym, a
 use Rattle.std.proofs.lemmas.Option.{same_Some, slice_get_within}
 use Rattle.cdb_base.specs.declared.event.Event.{Event}
 use Rattle.cdb_rules.proofs.ListMembers.{position_in}
-use Rattle.cdb_rules.proofs.NamedEvents.{in_position}
+use Rattle.cdb_rules.proofs.ValidHistories.{in_position}
 use Rattle.cdb_same.proofs.Behind.{behind_causes, in_both, keeps_order, turned_by}
 use Rattle.cdb_same.proofs.Counted.{counts_first}
 use Rattle.cdb_same.specs.Come.{HasCausesBefore}

@@ -1,15 +1,44 @@
+use Rattle.std.proofs.Common.{◌≡◌, ◌∙◌, map, ap, sym}
+use Rattle.std.proofs.lemmas.Bool.{false≢true}
+use Rattle.std.proofs.lemmas.Result.{err_from_is_err_and}
 use Rattle.cdb_rules.specs.RunView.{RunView}
-use Rattle.cdb_explain.specs.Explained.{answer_ending}
-use Rattle.cdb_search.specs.Shrunk.{IsShrunkText, WritesShrunk}
-use Rattle.cdb_streams.proofs.StreamEnds.{written_as}
+use Rattle.cdb_search.proofs.Scripts.{same_left}
+use Rattle.cdb_setup.specs.Parts.{AreInRange}
+use Rattle.cdb_slice.specs.Scripts.{command_for}
 use Rattle.cdb_search.proofs.shrinks.shrink.Goals as goal
 
-pub returns-clause-wrote : goal.returns-clause-wrote
-returns-clause-wrote g c =
-    let old = g.R.Source.stream c.args.script.now in
-    let new = g.R.Source.stream c.run_left_by.new.script in
-    let run : RunView = c.in_ok-run.run' in
-    let left = c.in_ok-run.ensures.left.leaves in
-    written_as g.W.Sink.stream (answer_ending c.write_small.result) c.args.out.now c.write_small.new.out
-    (IsShrunkText g.T.Runs.rules run c.args.goal) (WritesShrunk g.T.Runs.rules c.args.setup.now c.args.goal old new)
-    (λ text is. (run, left, is)) c.write_small.ensures.wrote
+pub returns-in_err-commands-clause-fault : goal.returns-in_err-commands-clause-fault
+returns-in_err-commands-clause-fault g c =
+    let p = err_from_is_err_and c.from_residual.result c.from_residual.ensures.1 in
+    rw (p.1, p.2) tt
+
+pub returns-in_err-holds_after-clause-fault : goal.returns-in_err-holds_after-clause-fault
+returns-in_err-holds_after-clause-fault g c =
+    let p = err_from_is_err_and c.from_residual-in_err-holds_after.result c.from_residual-in_err-holds_after.ensures.1 in
+    rw (p.1, p.2) tt
+
+pub returns-in_err-lines-clause-fault : goal.returns-in_err-lines-clause-fault
+returns-in_err-lines-clause-fault g c =
+    let p = err_from_is_err_and c.from_residual-in_err-lines.result c.from_residual-in_err-lines.ensures.1 in
+    rw (p.1, p.2) tt
+
+pub returns-in_err-lines_of-clause-fault : goal.returns-in_err-lines_of-clause-fault
+returns-in_err-lines_of-clause-fault g c =
+    let p = err_from_is_err_and c.from_residual-in_err-lines_of.result c.from_residual-in_err-lines_of.ensures.1 in
+    rw (p.1, p.2) tt
+
+pub returns-then-not-branch-clause-fault : goal.returns-then-not-branch-clause-fault
+returns-then-not-branch-clause-fault g c =
+    let run : RunView = c.args.run.now in
+    let rules = g.T.Runs.rules run.setup in
+    let range : AreInRange run.setup = rw c.setup.ensures at c.n-ranges.ensures.ranges in
+    let plays = c.valid_histories_play_back.ensures run.setup range run.history c.requires.valid in
+    let same = same_left rules run.setup c.args.goal run.history plays in
+    let commands : c.as_slice.result.now ≡ map command_for run.history =
+    c.as_slice.ensures.value ∙ c.in_ok-commands.ensures ∙ ap (map command_for) c.events.ensures in
+    λ holds. let yes = c.in_ok-holds_after.ensures.1 (rw (c.setup-2.ensures, commands) (same.1 holds)) in false≢true (sym c.if-not-branch.true ∙ yes)
+
+pub shrunk-requires-clause-holds : goal.shrunk-requires-clause-holds
+shrunk-requires-clause-holds g c =
+    rw (c.setup-3.ensures, c.as_slice-2.ensures.value)
+    (rw (c.setup-2.ensures, c.as_slice.ensures.value) at (c.in_ok-holds_after.ensures.0 c.if-not-branch.false))

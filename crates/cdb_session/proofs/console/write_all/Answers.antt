@@ -2,7 +2,7 @@ use Rattle.std.proofs.Common.{◌-◌, List, ℕ, arith, refl, ap, length, take,
 use Rattle.std.proofs.lemmas.List.{length-drop, length-take}
 use Rattle.std.proofs.lemmas.Result.{err_from_is_err_and}
 use Rattle.cdb_session.specs.Moves.{Wrote, WriteFailed, says}
-use Rattle.cdb_session.proofs.WrittenText.{nothing_said, piece_said, cut_off}
+use Rattle.cdb_session.proofs.MovesInOrder.{nothing_said, piece_said, cut_off}
 use Rattle.cdb_session.proofs.console.write_all.Goals as goal
 
 pub returns-in_err-count : goal.returns-in_err-count

@@ -1,5 +1,5 @@
 use Rattle.std.proofs.Common.{◌≤◌, ◌-◌, length}
-use Rattle.cdb_session.proofs.WrittenText.{HasWritten}
+use Rattle.cdb_session.proofs.MovesInOrder.{HasWritten}
 use Rattle.cdb_session.proofs.console.write_all.Given as goal
 
 abbrev pub invariant-loop-done : goal.invariant-loop-done

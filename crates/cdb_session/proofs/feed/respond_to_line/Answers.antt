@@ -28,5 +28,5 @@ returns-clause-unfinished g c =
     let asks = rw (c.as_slice-2.ensures.value, c.in_ok-line.ensures, c.as_slice.ensures.value) at c.request_of-request.ensures.asks in (
       line_handled g.C.Caller.answers c.args.style.now NoMemory c.in_ok-show.field-0 asks c.in_ok-show.ensures.shows
           c.in_ok-put.ensures.0 c.in_ok-put.ensures.1,
-      record { lines = c.in_ok-show.ensures.lines; seat = c.in_ok-show.ensures.seat; emptied = c.clear.ensures.items; quit_exactly = c.is_quit.ensures },
+      record { emptied = c.clear.ensures.items; quit_exactly = c.is_quit.ensures },
     )

@@ -2,7 +2,7 @@ use Rattle.std.proofs.Common.{◌≡◌, ◌++◌, map, take, ℕ, List, Bor, ap
 use Rattle.std.specs.Prelude.{string_bytes}
 use Rattle.std.proofs.lemmas.List.{take_all}
 use Rattle.cdb_session.specs.Dialogues.{lines_about}
-use Rattle.cdb_session.proofs.HelpLines.{about}
+use Rattle.cdb_session.proofs.OneRequest.{about}
 use Rattle.cdb_session.proofs.help.push_lines_about.Goals as goal
 
 pub returns : goal.returns

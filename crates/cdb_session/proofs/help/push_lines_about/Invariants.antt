@@ -1,6 +1,6 @@
 use Rattle.std.proofs.Common.{◌≡◌, ◌++◌, map, take, ℕ, List, Bor}
 use Rattle.std.specs.Prelude.{string_bytes}
-use Rattle.cdb_session.proofs.HelpLines.{about}
+use Rattle.cdb_session.proofs.OneRequest.{about}
 use Rattle.cdb_session.proofs.help.push_lines_about.Given as goal
 
 abbrev pub invariant-loop-line : goal.invariant-loop-line

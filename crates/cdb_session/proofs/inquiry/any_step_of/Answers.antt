@@ -1,5 +1,5 @@
 use Rattle.std.proofs.Common.{Some, None}
-use Rattle.cdb_session.proofs.InquiryLines.{any_of_line}
+use Rattle.cdb_session.proofs.OneRequest.{any_of_line}
 use Rattle.cdb_session.proofs.inquiry.any_step_of.Goals as goal
 
 pub returns-in-Some-step_of : goal.returns-in-Some-step_of

@@ -3,7 +3,7 @@ use Rattle.std.specs.Prelude.{Option}
 use Rattle.std.specs.Borrow.{Bor}
 use Rattle.cdb_text.specs.Grammar.{words_of}
 use Rattle.cdb_text.specs.Words.{words_left}
-use Rattle.cdb_session.proofs.InquiryLines.{too_many}
+use Rattle.cdb_session.proofs.OneRequest.{too_many}
 use Rattle.cdb_session.proofs.inquiry.step_of.Goals as goal
 
 pub returns-in_default-Some : goal.returns-in_default-Some

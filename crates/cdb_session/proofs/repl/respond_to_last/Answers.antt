@@ -2,7 +2,7 @@ use Rattle.std.proofs.Common.{arith}
 use Rattle.std.proofs.lemmas.Result.{err_from_is_err_and}
 use Rattle.cdb_session.specs.Lines.{seen_by}
 use Rattle.cdb_session.proofs.Emptiness.{none_where_empty, some_where_not_empty}
-use Rattle.cdb_session.proofs.FedBytes.{last_none, last_done, last_fails}
+use Rattle.cdb_session.proofs.NextState.{last_none, last_done, last_fails}
 use Rattle.cdb_session.proofs.repl.respond_to_last.Goals as goal
 
 pub returns-then-is_empty-clause-last : goal.returns-then-is_empty-clause-last

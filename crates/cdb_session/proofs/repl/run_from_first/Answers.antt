@@ -3,25 +3,26 @@ use Rattle.std.proofs.lemmas.List.{length-take}
 use Rattle.std.proofs.lemmas.Result.{err_from_is_err_and}
 use Rattle.cdb_session.specs.Lines.{seen_by}
 use Rattle.cdb_session.specs.Styles.{stays}
+use Rattle.cdb_session.specs.declared.session.Place.{Place}
 use Rattle.cdb_session.proofs.CallChain.{Onward-trans}
-use Rattle.cdb_session.proofs.WholeSession.{started, not_started, not_read, given, over_at_most, over_at_end}
+use Rattle.cdb_session.proofs.NextState.{started, not_started, not_read, given, over_at_most, over_at_end}
 use Rattle.cdb_session.proofs.repl.run_from_first.Goals as goal
 
 pub returns-in_default-clause-all : goal.returns-in_default-clause-all
 returns-in_default-clause-all g c =
-    not_started g.C.Caller.answers c.args.style.now (seen_by g.C.Caller.part c.args.session.now) (c.requires.calls, c.requires.replies)
+    not_started g.C.Caller.answers c.args.style.now (seen_by g.C.Caller.part c.args.session.now)
     (Unit {0}) (Unit {0}) tt c.in_default.ensures
 
 pub loop-read-init : goal.loop-read-init
 loop-read-init g c = record {
   few = omega (arith, ap length c.requires.empty);
   bound = omega arith;
-  lines = omega (arith, c.requires.lines);
+  lines = omega (arith, ap (λ (p : Place). p.lines) c.requires.first);
   sits = c.requires.sits;
   later = stays;
   arrives =
       rw c.requires.empty (started g.C.Caller.answers c.args.style.now (seen_by g.C.Caller.part c.args.session.now)
-      (c.requires.calls, c.requires.replies) (Unit {0}) (Unit {0}) tt c.requires.lines c.requires.seat c.requires.watched c.in-Ok.ensures);
+      (Unit {0}) (Unit {0}) tt c.requires.first c.in-Ok.ensures);
 }
 
 pub returns-in_default-read-clause-all : goal.returns-in_default-read-clause-all
@@ -35,13 +36,13 @@ returns-then-count-eq0-clause-all g c =
 pub returns-in_err-feed-clause-all : goal.returns-in_err-feed-clause-all
 returns-in_err-feed-clause-all g c =
     let p = err_from_is_err_and c.from_residual.result c.from_residual.ensures.1 in
-    rw (p.1, p.2) (c.in_err-feed.ensures.feeds _ _ (given g.C.Caller.answers c.args.style.now c.loop-read.invariant.arrives
+    rw (p.1, p.2) (c.in_err-feed.ensures.feeds _ _ _ (given g.C.Caller.answers c.args.style.now c.loop-read.invariant.arrives
     c.in-Ok-read.count c.read.new.buffer c.in-Ok-read.ensures.moves (omega (arith, c.in-Ok-read.ensures.within)) c.if-count-eq0.false))
 
 pub returns-then-branch-clause-all : goal.returns-then-branch-clause-all
 returns-then-branch-clause-all g c =
     let feeds = rw c.if-branch.true at c.in_ok-feed.ensures.feeds in
-    feeds _ _ (given g.C.Caller.answers c.args.style.now c.loop-read.invariant.arrives c.in-Ok-read.count c.read.new.buffer
+    feeds _ _ _ (given g.C.Caller.answers c.args.style.now c.loop-read.invariant.arrives c.in-Ok-read.count c.read.new.buffer
     c.in-Ok-read.ensures.moves (omega (arith, c.in-Ok-read.ensures.within)) c.if-count-eq0.false)
 
 pub loop-read-preserved : goal.loop-read-preserved
@@ -55,7 +56,7 @@ loop-read-preserved g c =
       sits = c.in_ok-feed.ensures.sits;
       later = Onward-trans g.C.Caller.later _ _ _ c.loop-read.invariant.later c.feed.ensures.later;
       arrives =
-          feeds _ _ (given g.C.Caller.answers c.args.style.now c.loop-read.invariant.arrives c.in-Ok-read.count c.read.new.buffer
+          feeds _ _ _ (given g.C.Caller.answers c.args.style.now c.loop-read.invariant.arrives c.in-Ok-read.count c.read.new.buffer
           c.in-Ok-read.ensures.moves (omega (arith, within)) c.if-count-eq0.false);
     }
 

@@ -9,10 +9,10 @@ abbrev pub invariant-loop-read : goal.invariant-loop-read
 invariant-loop-read g l = record {
   few : length l.unfinished.items ≤ longest + 1;
   bound : l.read ≤ 9223372036854779904;
-  lines : l.session.lines ≤ l.read;
-  sits : MaySit l.style (g.C.Caller.seats l.session.caller) l.session.seat;
+  lines : l.session.place.lines ≤ l.read;
+  sits : MaySit l.style (g.C.Caller.seats l.session.caller) l.session.place.seat;
   later : Onward g.C.Caller.later l.fn.session.caller l.session.caller;
-  arrives : Arrives g.C.Caller.answers l.style (g.T.Console.known l.fn.console)
+  arrives : Arrives g.C.Caller.answers l.style (g.C.Caller.part l.fn.session.caller) (g.T.Console.known l.fn.console)
       (g.T.Console.known l.console) (seen_by g.C.Caller.part l.session) l.unfinished.items [] l.read;
 }
 

@@ -1,5 +1,5 @@
 use Rattle.std.proofs.lemmas.Result.{err_from_is_err_and}
-use Rattle.cdb_session.proofs.WrittenText.{both_texts_said, first_text_cut_off}
+use Rattle.cdb_session.proofs.MovesInOrder.{both_texts_said, first_text_cut_off}
 use Rattle.cdb_session.proofs.repl.write_opening.Goals as goal
 
 pub returns-in_err-write_all : goal.returns-in_err-write_all

@@ -1,6 +1,6 @@
 use Rattle.std.proofs.Common.{rules, tests, ◌≡◌, true, ◌∙◌}
 use Rattle.std.proofs.lemmas.Result.{err_from_is_err_and}
-use Rattle.cdb_session.proofs.WrittenText.{both_texts_said, first_text_cut_off}
+use Rattle.cdb_session.proofs.MovesInOrder.{both_texts_said, first_text_cut_off}
 use Rattle.cdb_session.proofs.repl.write_prompt.Goals as goal
 
 pub returns-in_err-write_all : goal.returns-in_err-write_all

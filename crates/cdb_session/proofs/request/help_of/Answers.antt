@@ -2,7 +2,7 @@ use Rattle.std.proofs.Common.{◌≡◌, arith, rules, take, sym, ap, ◌∙◌}
 use Rattle.std.specs.Prelude.{codes}
 use Rattle.std.proofs.lemmas.List.{take_rest}
 use Rattle.cdb_session.specs.Topics.{topic_of}
-use Rattle.cdb_session.proofs.HelpLines.{is_help, is_no_help}
+use Rattle.cdb_session.proofs.OneRequest.{is_help, is_no_help}
 use Rattle.cdb_session.proofs.request.help_of.Goals as goal
 
 pub returns-in-Some-clause-some : goal.returns-in-Some-clause-some

@@ -1,9 +1,8 @@
 use Rattle.std.proofs.Common.{inr, rules, ◌≢◌, refl, sym}
 use Rattle.std.specs.Prelude.{Ok, Err}
 use Rattle.cdb_session.specs.Requests.{quit_line}
-use Rattle.cdb_session.proofs.OneRequest.{only_inquiry, only_repeat, only_seat, only_call, only_fault}
-use Rattle.cdb_session.proofs.InquiryLines.{inquiry_says, no_inquiry, no_repeat, repeat_says}
-use Rattle.cdb_session.proofs.SeatLines.{not_own}
+use Rattle.cdb_session.proofs.OneRequest.{only_inquiry, only_repeat, only_seat, only_call, only_fault, inquiry_says, no_inquiry, no_repeat, repeat_says}
+use Rattle.cdb_session.proofs.OneRequest.{not_own}
 use Rattle.cdb_session.proofs.request.request_of.Goals as goal
 
 pub returns-in-Some-seat_of-clause-only : goal.returns-in-Some-seat_of-clause-only

@@ -1,10 +1,10 @@
 use Rattle.std.proofs.Common.{rules, arith, ◌≡◌, ◌∙◌, true, false, refl, sym, take, get_or}
 use Rattle.std.proofs.lemmas.Slice.Eq.{bytes_eq-Decides}
 use Rattle.std.specs.Prelude.{codes}
-use Rattle.cdb_session.proofs.SeatLines.{is_seat, long, word, digit}
-use Rattle.cdb_session.proofs.request.seat_of.Goals as goal
+use Rattle.cdb_session.proofs.OneRequest.{is_seat, long, word, digit}
 use Rattle.cdb_session.proofs.request.seat_of.Goals.{else-eq-via-then-eq+then-digit-ge49+else-digit-le57, else-eq-via-then-eq+else-digit-ge49}
 use Rattle.cdb_session.proofs.request.seat_of.Goals.{else-eq-via-else-eq}
+use Rattle.cdb_session.proofs.request.seat_of.Goals as goal
 
 pub returns-then-line-ne-SEAT_LINE-clause-none : goal.returns-then-line-ne-SEAT_LINE-clause-none
 returns-then-line-ne-SEAT_LINE-clause-none c = λ seat within is. let h = c.if-line-ne-SEAT_LINE.true in h (long c.args.line.now seat within is)

@@ -1,5 +1,5 @@
 use Rattle.std.proofs.Common.{[], List, ℕ, Bor, sym, ◌∙◌, arith}
-use Rattle.cdb_session.proofs.FullWords.{full_of_two}
+use Rattle.cdb_session.proofs.TypedWords.{full_of_two}
 use Rattle.cdb_session.proofs.typed.full.Goals as goal
 
 pub returns-then-is_some : goal.returns-then-is_some

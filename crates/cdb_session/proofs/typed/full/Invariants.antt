@@ -1,5 +1,5 @@
 use Rattle.std.proofs.Common.{◌≡◌}
-use Rattle.cdb_session.proofs.FullWords.{beginning, found_in}
+use Rattle.cdb_session.proofs.TypedWords.{beginning, found_in}
 use Rattle.cdb_session.proofs.typed.full.Given as goal
 
 abbrev pub invariant-loop-option : goal.invariant-loop-option

@@ -5,7 +5,7 @@ use Rattle.std.proofs.lemmas.List.Sums.{position_or_len_is}
 use Rattle.std.proofs.lemmas.Iterator.{YieldsList-from_slice}
 use Rattle.std.proofs.lemmas.Iterator.Search.{position_from_yields_List}
 use Rattle.cdb_session.specs.Typed.{is_mark}
-use Rattle.cdb_session.proofs.Names.{no_name, position_none}
+use Rattle.cdb_session.proofs.TypedWords.{no_name, position_none}
 use Rattle.cdb_session.proofs.typed.halves.Goals as goal
 
 pub returns-in-None-clause-none : goal.returns-in-None-clause-none

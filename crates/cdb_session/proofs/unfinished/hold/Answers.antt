@@ -1,5 +1,5 @@
 use Rattle.std.proofs.Common.{rules, ◌≡◌, ◌∙◌, ◌-◌, ap, length, min}
-use Rattle.cdb_session.proofs.HeldBytes.{fill}
+use Rattle.cdb_session.proofs.CutLines.{fill}
 use Rattle.cdb_session.proofs.unfinished.hold.Goals as goal
 
 pub returns : goal.returns

@@ -5,8 +5,7 @@ use Rattle.std.proofs.lemmas.Result.{IfOk-weaker, IfErr-weaker}
 use Rattle.serde_json.specs.View.{view}
 use Rattle.cdb_setup.specs.Parts.{lists_in}
 use Rattle.cdb_setup.specs.Readings.{HasAnswers}
-use Rattle.cdb_setup.proofs.Ranks.{lists_first_of}
-use Rattle.cdb_setup.proofs.Stages.{joined, after_answers}
+use Rattle.cdb_setup.proofs.Whole.{lists_first_of, joined, after_answers}
 use Rattle.cdb_setup.proofs.answers.answers_of.Goals as goal
 
 pub returns-clause-found : goal.returns-clause-found

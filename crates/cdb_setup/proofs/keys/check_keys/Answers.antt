@@ -2,7 +2,7 @@ use Rattle.std.proofs.Common.{rules, ◌≡◌}
 use Rattle.serde_json.specs.Data.{object}
 use Rattle.serde_json.specs.View.{view, members_view}
 use Rattle.cdb_setup.specs.Format.{HasKnownKeys}
-use Rattle.cdb_setup.proofs.Stages.{after_keys}
+use Rattle.cdb_setup.proofs.Whole.{after_keys}
 use Rattle.cdb_setup.proofs.keys.check_keys.Goals as goal
 
 pub returns-in-None-clause-ok : goal.returns-in-None-clause-ok

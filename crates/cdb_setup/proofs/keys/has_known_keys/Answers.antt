@@ -1,4 +1,4 @@
-use Rattle.cdb_setup.proofs.KeyNames.{known_or_other}
+use Rattle.cdb_setup.proofs.Whole.{known_or_other}
 use Rattle.cdb_setup.proofs.keys.has_known_keys.Goals as goal
 
 pub returns : goal.returns

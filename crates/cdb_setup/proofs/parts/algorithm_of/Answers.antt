@@ -2,7 +2,7 @@ use Rattle.std.proofs.Common.{rules}
 use Rattle.serde_json.specs.View.{view}
 use Rattle.cdb_setup.specs.declared.setup.Algorithm.TheVariants.{Leader, Alpha}
 use Rattle.cdb_setup.specs.Format.{HasAlgorithm}
-use Rattle.cdb_setup.proofs.Stages.{after_algorithm}
+use Rattle.cdb_setup.proofs.Whole.{after_algorithm}
 use Rattle.cdb_setup.proofs.parts.algorithm_of.Goals as goal
 
 pub returns-in-Some-leader : goal.returns-in-Some-leader

@@ -3,8 +3,7 @@ use Rattle.std.proofs.lemmas.Grind.{common_steps}
 use Rattle.std.proofs.lemmas.Result.{IfOk-weaker, IfErr-weaker}
 use Rattle.serde_json.specs.View.{view}
 use Rattle.cdb_setup.specs.Readings.{HasInputs}
-use Rattle.cdb_setup.proofs.Ranks.{inputs_first}
-use Rattle.cdb_setup.proofs.Stages.{joined, after_inputs}
+use Rattle.cdb_setup.proofs.Whole.{inputs_first, joined, after_inputs}
 use Rattle.cdb_setup.proofs.parts.inputs_of.Goals as goal
 
 pub returns-clause-found : goal.returns-clause-found

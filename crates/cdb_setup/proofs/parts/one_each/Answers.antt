@@ -2,7 +2,7 @@ use Rattle.std.proofs.Common.{rules, ◌≢◌, length, map}
 use Rattle.std.proofs.lemmas.List.{length-map}
 use Rattle.serde_json.specs.View.{view}
 use Rattle.cdb_setup.specs.Format.{array_of, HasAt}
-use Rattle.cdb_setup.proofs.Values.{no_one_each}
+use Rattle.cdb_setup.proofs.Whole.{no_one_each}
 use Rattle.cdb_setup.proofs.parts.one_each.Goals as goal
 
 pub returns-else-values-count : goal.returns-else-values-count

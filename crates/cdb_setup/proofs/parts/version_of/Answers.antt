@@ -2,7 +2,7 @@ use Rattle.std.proofs.Common.{rules}
 use Rattle.serde_json.specs.View.{view}
 use Rattle.cdb_setup.specs.declared.key.Key.TheVariants as key
 use Rattle.cdb_setup.specs.Format.{HasAt}
-use Rattle.cdb_setup.proofs.Stages.{version_last}
+use Rattle.cdb_setup.proofs.Whole.{version_last}
 use Rattle.cdb_setup.proofs.parts.version_of.Goals as goal
 
 pub returns-in_err-number : goal.returns-in_err-number

@@ -6,8 +6,7 @@ use Rattle.cdb_shared_session.proofs.Writable.{opened_writable}
 use Rattle.cdb_shared_session.proofs.shared.debug_shared.Goals as goal
 
 pub returns-in-Err-clause-fault : goal.returns-in-Err-clause-fault
-returns-in-Err-clause-fault g c =
-    rw (← c.len-count.ensures) (c.of_beginning.ensures c.args.setup.now c.args.from.now c.len-count.result c.in-Err.ensures.fault)
+returns-in-Err-clause-fault g c = rw (← c.len-count.ensures) c.in-Err.ensures.fault
 
 pub returns-in_err-control-clause-fault : goal.returns-in_err-control-clause-fault
 returns-in_err-control-clause-fault g c =

@@ -1,4 +1,4 @@
-use Rattle.cdb_standing.proofs.CausesFound.{all_direct}
+use Rattle.cdb_standing.proofs.LinksFound.{all_direct}
 use Rattle.cdb_standing.proofs.Places.{the_place}
 use Rattle.cdb_standing.proofs.causes.causes_in.Goals as goal
 

@@ -1,5 +1,5 @@
 use Rattle.std.proofs.Common.{ap, ◌∙◌}
-use Rattle.cdb_standing.proofs.CausesFound.{none_more, one_more}
+use Rattle.cdb_standing.proofs.LinksFound.{none_more, one_more}
 use Rattle.cdb_standing.proofs.causes.direct_in.Goals as goal
 use Rattle.cdb_standing.proofs.causes.direct_in.Goals.{in-Some, in_default}
 

@@ -1,4 +1,4 @@
-use Rattle.cdb_standing.proofs.CausesFound.{loss_last}
+use Rattle.cdb_standing.proofs.LinksFound.{loss_last}
 use Rattle.cdb_standing.proofs.causes.last_cause.Goals as goal
 
 pub returns-in-Step : goal.returns-in-Step

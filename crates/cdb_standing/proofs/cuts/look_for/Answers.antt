@@ -1,5 +1,4 @@
-use Rattle.std.proofs.Common.{◌≡◌, suc, slice_index, refl, ap, ◌∙◌, sym, arith}
-use Rattle.cdb_standing.specs.Cuts.{cut_of}
+use Rattle.std.proofs.Common.{refl, arith}
 use Rattle.cdb_standing.proofs.CutsFound.{cut_at, lower_sound, lower_closed}
 use Rattle.cdb_standing.proofs.cuts.look_for.Goals as goal
 
@@ -18,7 +17,5 @@ returns-then-not-has_none_behind-clause-closed c =
 
 pub returns-else-not-has_none_behind-clause-closed : goal.returns-else-not-has_none_behind-clause-closed
 returns-else-not-has_none_behind-clause-closed c = λ b j other d.
-    let cuts = c.args.cuts.now in
-    let e : suc c.index.result ≡ c.args.q = omega arith in
-    let is : slice_index cuts c.index.result ≡ cut_of cuts c.args.q = sym (cut_at cuts c.index.result) ∙ ap (cut_of cuts) e in
-    rw (← is) (c.if-not-has_none_behind.ensures refl j b other d.effect d.later)
+    let is = cut_at c.args.cuts.now c.index.result in
+    let none = c.if-not-has_none_behind.ensures refl j b other d.effect d.later in grind arith

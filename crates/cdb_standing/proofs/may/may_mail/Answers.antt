@@ -3,5 +3,5 @@ use Rattle.cdb_standing.proofs.may.may_mail.Goals as goal
 
 pub returns-in-Send : goal.returns-in-Send
 returns-in-Send c =
-    let long = ap length (rw c.index.ensures.value at c.row.ensures) in
+    let long = ap length c.row.ensures in
     rw c.in-Send.is ((λ yes. let e = eqb-true _ _ yes in omega arith), (λ may. eq-eqb _ _ (omega arith)))

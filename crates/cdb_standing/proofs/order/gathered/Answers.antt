@@ -6,12 +6,15 @@ pub loop-next-init : goal.loop-next-init
 loop-next-init c = record { gathering = gathering_begins c.requires.sound (omega arith) c.in_ok-found.ensures.items; few = omega arith }
 
 pub loop-next-smaller : goal.loop-next-smaller
-loop-next-smaller c = less_room c.requires.sound c.in-Some.ensures.left.0 c.loop-next.invariant.gathering c.in_ok-from.ensures
+loop-next-smaller c = less_room c.requires.sound c.loop-next.invariant.gathering c.in-Some.ensures.left
+    c.in_ok-push_next.ensures
 
 pub loop-next-preserved : goal.loop-next-preserved
 loop-next-preserved c = record {
-  gathering = gathering_goes_on c.requires.sound c.in-Some.ensures.left.0 c.loop-next.invariant.gathering c.in_ok-from.ensures;
-  few = c.in-Some.ensures.left.0;
+  gathering =
+      gathering_goes_on c.requires.sound c.loop-next.invariant.gathering c.in-Some.ensures.left
+      c.in_ok-push_next.ensures;
+  few = c.in-Some.ensures.left.few;
 }
 
 pub returns : goal.returns

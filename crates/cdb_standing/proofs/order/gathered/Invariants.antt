@@ -1,12 +1,11 @@
 use Rattle.std.proofs.Common.{◌<◌}
 use Rattle.cdb_standing.specs.Pasts.{room}
-use Rattle.cdb_standing.specs.Tables.{rows_in}
 use Rattle.cdb_standing.proofs.Gathering.{IsGathering}
 use Rattle.cdb_standing.proofs.order.gathered.Given as goal
 
 abbrev pub invariant-loop-next : goal.invariant-loop-next
 invariant-loop-next l = record {
-  gathering : IsGathering (rows_in l.tables.steps.items) (rows_in l.tables.sent.items) l.cuts l.from l.found.items;
+  gathering : IsGathering l.tables l.cuts l.from l.found.items;
   few : l.start < 9;
 }
 

@@ -1,4 +1,5 @@
-use Rattle.cdb_standing.proofs.Led.{none_sound, begun}
+use Rattle.std.proofs.Common.{refl}
+use Rattle.cdb_standing.proofs.CutsFound.{none_sound, begun}
 use Rattle.cdb_standing.proofs.Places.{itself}
 use Rattle.cdb_standing.proofs.past.first_numbers.Goals as goal
 
@@ -19,7 +20,7 @@ returns-in-Lost c =
       sound =
           c.look_behind.ensures.sound effect c.args.ahead (itself c.requires.kept.sound c.args.ahead effect)
           (none_sound c.requires.kept.sound effect c.args.ahead);
-      itself = rw c.in-Lost.is tt;
+      itself = rw c.in-Lost.is refl;
       causes = c.look_behind.ensures.within;
       few = c.look_behind.ensures.few;
     }

@@ -1,5 +1,5 @@
 use Rattle.std.proofs.Common.{◌≡◌, sym, arith}
-use Rattle.cdb_standing.proofs.Led.{raise_higher, raise_few, raise_sound, causes_few, causes_led, causes_within}
+use Rattle.cdb_standing.proofs.CutsFound.{raise_higher, raise_few, raise_sound, causes_few, causes_led, causes_within}
 use Rattle.cdb_standing.proofs.past.look_behind.Goals as goal
 
 pub loop-i-preserved : goal.loop-i-preserved

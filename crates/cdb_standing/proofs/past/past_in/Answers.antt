@@ -1,4 +1,4 @@
-use Rattle.cdb_standing.proofs.Led.{exactly_led}
+use Rattle.cdb_standing.proofs.CutsFound.{exactly_led}
 use Rattle.cdb_standing.proofs.Places.{the_place}
 use Rattle.cdb_standing.proofs.past.past_in.Goals as goal
 

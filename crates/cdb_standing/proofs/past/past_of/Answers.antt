@@ -1,4 +1,4 @@
-use Rattle.cdb_standing.proofs.Led.{goes_on, smaller, none_above}
+use Rattle.cdb_standing.proofs.CutsFound.{goes_on, smaller, none_above}
 use Rattle.cdb_standing.proofs.past.past_of.Goals as goal
 
 pub loop-i-smaller : goal.loop-i-smaller

@@ -1,5 +1,5 @@
 use Rattle.std.proofs.Common.{arith}
-use Rattle.cdb_causal.proofs.Linked.{false_only}
+use Rattle.cdb_causal.proofs.Walks.{false_only}
 use Rattle.cdb_standing.proofs.DirectCounts.{none_counted, one_counted, other_counted}
 use Rattle.cdb_standing.proofs.positions.count_direct.Goals as goal
 use Rattle.cdb_standing.proofs.positions.count_direct.Goals.{then-is_direct_cause, else-is_direct_cause}

@@ -1,6 +1,5 @@
 use Rattle.std.proofs.Common.{rules, arith}
-use Rattle.cdb_text.proofs.Short.{short_auto}
-use Rattle.cdb_text.proofs.Whole.{one_command}
+use Rattle.cdb_text.proofs.Whole.{short_auto, one_command}
 use Rattle.cdb_text.proofs.line.short_auto.Goals as goal
 
 pub returns-in-97 : goal.returns-in-97

@@ -1,7 +1,6 @@
 use Rattle.std.proofs.Common.{sym, ap, ◌∙◌, subst, is_ok, true≢false}
-use Rattle.cdb_agreement.proofs.KeptHistories.{taken_again}
+use Rattle.cdb_agreement.proofs.Lawful.{taken_again}
 use Rattle.cdb_setup.specs.Parts.{AreInRange}
-use Rattle.cdb_rules.specs.Machines.{IsLawful, machine_of}
 use Rattle.cdb_rules.specs.Runs.{with_result}
 use Rattle.cdb_rules.proofs.OfRun.{last_enabled, next_of_run}
 use Rattle.cdb_trail.proofs.played.take_next.Goals as goal
@@ -25,15 +24,5 @@ returns g c =
     let table = g.P.Process.table in
     let setup = c.args.again.now.setup in
     let range : AreInRange setup = subst AreInRange c.setup.ensures c.n-ranges.ensures.ranges in
-    let laws = g.met.P.Process in
-    let lawful : IsLawful (machine_of table setup) =
-    record {
-      query = laws.query_by_state;
-      recv = laws.recv_by_state;
-      send = laws.wish_send;
-      read = laws.wish_read;
-      write = laws.wish_write;
-      local = laws.wish_local;
-    } in
-    let is = taken_again table setup range lawful _ _ (last_enabled table setup range _ _ c.requires) in
+    let is = taken_again table setup range g.met.P.Process.lawful _ _ (last_enabled table setup range _ _ c.requires) in
     c.in_ok-again.ensures.after ∙ ap (with_result c.args.again.now) (c.in_ok-again.ensures.returns ∙ is)

@@ -1,14 +1,14 @@
-use Rattle.cdb_trail.proofs.Promised.{leader_values_have_trails, alpha_values_have_trails, leader_trails_are_unique, alpha_trails_are_unique}
+use Rattle.cdb_trail.proofs.Promised.{leader_values, alpha_values, leader_unique, alpha_unique}
 use Rattle.cdb_trail.proofs.trail.trail_of.Goals as goal
 
 pub trail_by-requires-clause-has_trails : goal.trail_by-requires-clause-has_trails
-trail_by-requires-clause-has_trails c = leader_values_have_trails c.args.run.now.setup
+trail_by-requires-clause-has_trails c = leader_values c.args.run.now.setup
 
 pub trail_by-requires-clause-no_others : goal.trail_by-requires-clause-no_others
-trail_by-requires-clause-no_others c = leader_trails_are_unique c.args.run.now.setup
+trail_by-requires-clause-no_others c = leader_unique c.args.run.now.setup
 
 pub trail_by-requires-in-Alpha-clause-has_trails : goal.trail_by-requires-in-Alpha-clause-has_trails
-trail_by-requires-in-Alpha-clause-has_trails c = alpha_values_have_trails c.args.run.now.setup
+trail_by-requires-in-Alpha-clause-has_trails c = alpha_values c.args.run.now.setup
 
 pub trail_by-requires-in-Alpha-clause-no_others : goal.trail_by-requires-in-Alpha-clause-no_others
-trail_by-requires-in-Alpha-clause-no_others c = alpha_trails_are_unique c.args.run.now.setup
+trail_by-requires-in-Alpha-clause-no_others c = alpha_unique c.args.run.now.setup

@@ -133,7 +133,12 @@ fn race_at_last<R: Abort + Threads + Wait + Sync + AllocGlobal>(
     let Err(fault) = race_once(rt, ONE_PROCESS.as_bytes(), scripts, out) else {
         return Ok(());
     };
-    assert!(rt; matches!(fault, RaceFault::NoMemory(_) | RaceFault::Spawn(_)));
+    assert!(rt;
+        matches!(
+            fault,
+            RaceFault::Play(PlayFault::NoMemory(_)) | RaceFault::Spawn(_)
+        )
+    );
     assert_eq!(rt; out.held.len(), 0);
     race_once(rt, ONE_PROCESS.as_bytes(), scripts, out)
 }

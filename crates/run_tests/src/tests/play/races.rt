@@ -9,7 +9,7 @@ use cdb_play::{race_on, race_with};
 use cdb_rules::Runs;
 use cdb_setup::Setup;
 use cdb_shared::{Gate, Seat};
-use cdb_streams::{RaceFault, fits, race_status_of, write_race_fault};
+use cdb_streams::{PlayFault, RaceFault, fits, race_status_of, write_race_fault};
 use std::alloc::{AllocError, Global};
 use std::process::Abort;
 use std::sync::Wait;
@@ -47,7 +47,11 @@ fn check_writer<R: Abort + Threads + Wait + Sync + AllocGlobal>(
 ) {
     let mut out = writer(rt, 7, good_calls);
     let raced = race_of_one_script(rt, 0, SCRIPT, &mut out);
-    assert_eq!(rt; raced, Err(RaceFault::Write), "after {good_calls} calls");
+    assert_eq!(rt;
+        raced,
+        Err(RaceFault::Play(PlayFault::Write)),
+        "after {good_calls} calls"
+    );
     is_beginning(rt, &out, good_calls, text);
 }
 

@@ -3,9 +3,10 @@
 use super::pair::{Before, OPEN, Pair, ends_with_seats, say, try_setup};
 use cdb_any_run::AnyRun;
 use cdb_control::{Act, Command};
-use cdb_race::{Raced, Script, ThreadFault, race};
+use cdb_race::{Raced, Script, race};
 use cdb_setup::Setup;
 use cdb_shared::End;
+use cdb_streams::RaceFault;
 use std::alloc::{AllocError, Global};
 use std::process::Abort;
 use std::sync::Wait;
@@ -111,7 +112,7 @@ fn raced<R: Threads + Wait + Sync + Abort + AllocGlobal>(
     setup: Setup,
     script: Script,
     gates: Vec<Before>,
-) -> Result<(usize, usize, usize), ThreadFault> {
+) -> Result<(usize, usize, usize), RaceFault> {
     assert!(rt; setup.n() == 1 && gates.len() == 2);
     let raced = race::<AnyRun, _, _>(rt, rt.alloc(), setup, 8, &[script], gates)?;
     let found = counts(&raced);
@@ -130,7 +131,7 @@ fn raced_up_to<R: Threads + Wait + Sync + Abort + AllocGlobal>(
     rt: &R,
     process: u32,
     script_call: u32,
-) -> Result<(usize, usize, usize), ThreadFault> {
+) -> Result<(usize, usize, usize), RaceFault> {
     let setup = try_setup(rt.alloc()).expect(rt, "a setup");
     let script = script(rt.alloc()).expect(rt, "a script");
     let gates = vec![in rt.alloc(); Before(process), Before(script_call)].expect(rt, "gates");
@@ -144,8 +145,8 @@ fn a_race_leaves_the_final_journal_and_the_replies(rt: HostRuntime) {
 
 #[test]
 fn a_race_that_a_gate_stops_names_the_least_seat_that_was_stopped(rt: HostRuntime) {
-    assert_eq!(&rt; raced_up_to(&rt, OPEN, 1), Err(ThreadFault::Stopped(2)));
-    assert_eq!(&rt; raced_up_to(&rt, 3, OPEN), Err(ThreadFault::Stopped(1)));
-    assert_eq!(&rt; raced_up_to(&rt, 3, 1), Err(ThreadFault::Stopped(1)));
+    assert_eq!(&rt; raced_up_to(&rt, OPEN, 1), Err(RaceFault::Stopped(2)));
+    assert_eq!(&rt; raced_up_to(&rt, 3, OPEN), Err(RaceFault::Stopped(1)));
+    assert_eq!(&rt; raced_up_to(&rt, 3, 1), Err(RaceFault::Stopped(1)));
     assert_eq!(&rt; raced_up_to(&rt, OPEN, 2), Ok((9, 8, 1)));
 }

@@ -1,5 +1,5 @@
 use Rattle.std.proofs.Common.{sym, ◌∙◌, arith}
-use Rattle.cdb_rules.proofs.Removed.{few-removed}
+use Rattle.cdb_rules.proofs.Undo.{few-removed}
 use Rattle.cdb_rules.specs.EventRefs.{name_given}
 use Rattle.cdb_any_run.proofs.runs.AnyRunRuns.rollback.Goals as goal
 

@@ -1,43 +1,35 @@
-use Rattle.std.proofs.Common.{refl, ap, ◌∙◌}
-use Rattle.cdb_control.proofs.Steps.{changed, on_error, unchanged, rolled_back-as, rollback_refused-as}
-use Rattle.cdb_control.proofs.Room.{swap}
-use Rattle.cdb_rules.specs.EventRefs.{name_given}
-use Rattle.cdb_control.specs.Room.{StoredState}
-use Rattle.cdb_rules.specs.Undo.{rollback_of, result_alone, left_by, number_removed, with_removed}
+use Rattle.std.proofs.Common.{◌∙◌, refl}
+use Rattle.std.proofs.lemmas.Result.{err_from_is_err_and}
+use Rattle.cdb_control.proofs.RedoLists.{list_of}
+use Rattle.cdb_control.proofs.Steps.{carried_out, not_carried_out, none_removed, not_rolled_back, refused_leaves, rolled_not_spared}
+use Rattle.cdb_control.proofs.Steps.{rollback_granted, rollback_refused, rollback_done}
 use Rattle.cdb_control.proofs.state.ControlState.rollback.Goals as goal
-use Rattle.cdb_control.proofs.state.ControlState.rollback.Goals.{in-Ok, in-Err}
 
-pub returns-clause-ok : goal.returns-clause-ok
-returns-clause-ok g c =
-    let now = c.args.self.now in
-    let name = name_given c.args.event in
-    let w = swap c.self.inside.redo.items c.rollback.new.self refl refl c.self.view_is c.requires.from_one c.requires.to_last c.index_mut-list.ensures.value in
-    let x = rollback_of now.state.setup.processes now.state.history name in
-    let r = c.in_ok-count.field-0 in
-    let did = c.in_ok-count.ensures.rolled_back in
-    let returned =
-    did.returns ∙ ap (λ (v : StoredState). number_removed (result_alone (rollback_of v.state.setup.processes v.state.history name))) c.self.view_is in
-    let after =
-    changed (λ u. left_by u.history (rollback_of u.setup.processes u.history name))
-    (λ u list. with_removed list (result_alone (rollback_of u.setup.processes u.history name))) w c.self.view_is did.after did.list in
-    elim c.match-branch-2.branch [
-      | in-Ok w ↦ rw w.result-is (rolled_back-as now.state _ c.args.seat x r w.in-Ok.count returned after w.in-Ok.is)
-      | in-Err w ↦ rw w.result-is (rw w.refused.ensures (rollback_refused-as now.state _ c.args.seat x r w.in-Err.refusal _ returned after w.in-Err.is))
-    ]
-
-pub returns-clause-capacities : goal.returns-clause-capacities
-returns-clause-capacities g c =
-    let w = swap c.self.inside.redo.items c.rollback.new.self refl refl c.self.view_is c.requires.from_one c.requires.to_last c.index_mut-list.ensures.value in
-    w.grown c.rollback.ensures.capacity
-
-pub returns-in_err-count-clause-err : goal.returns-in_err-count-clause-err
-returns-in_err-count-clause-err g c =
-    let w = swap c.self.inside.redo.items c.rollback.new.self refl refl c.self.view_is c.requires.from_one c.requires.to_last c.index_mut-list.ensures.value in
+pub returns-in_err-count : goal.returns-in_err-count
+returns-in_err-count g c =
+    let w = list_of c.self.inside.redo.items (rw (← c.self.view_is) at c.requires.seat) c.index_mut-list.ensures.value in
     let did = c.in_err-count.ensures.rolled_back in
-    let after = changed (λ u. u.history) (λ u list. list) w c.self.view_is did.err did.list_err in
-    on_error c.from_residual.result (after ∙ unchanged c.args.self.now.state c.args.seat)
+    rw (← c.self.view_is, (err_from_is_err_and c.from_residual.result c.from_residual.ensures.1).1)
+    (not_carried_out (rw (did.err, w.same c.rollback.new.removed did.list_err) refl) (rollback_granted _ _ _ _ did.memory)
+    (λ spared space. rolled_not_spared _ spared) (w.grown _ c.rollback.ensures.capacity))
 
-pub returns-in_err-count-clause-capacities : goal.returns-in_err-count-clause-capacities
-returns-in_err-count-clause-capacities g c =
-    let w = swap c.self.inside.redo.items c.rollback.new.self refl refl c.self.view_is c.requires.from_one c.requires.to_last c.index_mut-list.ensures.value in
-    w.grown c.rollback.ensures.capacity
+pub returns-in-Err : goal.returns-in-Err
+returns-in-Err g c =
+    let w = list_of c.self.inside.redo.items (rw (← c.self.view_is) at c.requires.seat) c.index_mut-list.ensures.value in
+    let did = c.in_ok-count.ensures.rolled_back in
+    let is = not_rolled_back _ did.returns c.in-Err.is in
+    rw (
+      ← c.self.view_is,
+      did.after,
+      c.refused.ensures,
+      w.same c.rollback.new.removed (did.list ∙ none_removed _ _ is),
+      refused_leaves _ (g.R.Runs.run c.self.inside.run).history is,
+    )
+    (carried_out (rollback_refused _ _ _ _ is) (w.grown _ c.rollback.ensures.capacity))
+
+pub returns : goal.returns
+returns g c =
+    let w = list_of c.self.inside.redo.items (rw (← c.self.view_is) at c.requires.seat) c.index_mut-list.ensures.value in
+    let did = c.in_ok-count.ensures.rolled_back in
+    rw (← c.self.view_is, did.after, w.put c.rollback.new.removed)
+    (carried_out (rollback_done _ _ _ _ _ did.returns c.in-Ok.is w.events did.list) (w.grown _ c.rollback.ensures.capacity))

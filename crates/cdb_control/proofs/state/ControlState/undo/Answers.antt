@@ -1,42 +1,44 @@
-use Rattle.std.proofs.Common.{refl, ap, ◌∙◌}
-use Rattle.cdb_control.proofs.Steps.{changed, on_error, unchanged, undone-as, undo_refused-as}
-use Rattle.cdb_control.proofs.Room.{swap}
+use Rattle.std.proofs.Common.{◌∙◌, ◌∷◌, [], ◌++◌, sym, ap, arith, length, List, refl}
+use Rattle.std.specs.Result.{result_err}
+use Rattle.cdb_base.specs.declared.event.Event.{Event}
 use Rattle.cdb_rules.specs.EventRefs.{name_given}
-use Rattle.cdb_control.specs.Room.{StoredState}
-use Rattle.cdb_rules.specs.Refusals.{with_taken}
-use Rattle.cdb_rules.specs.Undo.{undo_of, result_alone, left_by}
+use Rattle.cdb_control.proofs.RedoLists.{list_of}
+use Rattle.cdb_control.proofs.Steps.{carried_out, not_carried_out, not_refused, refused_leaves, undo_granted, undo_refused, undo_done}
 use Rattle.cdb_control.proofs.state.ControlState.undo.Goals as goal
-use Rattle.cdb_control.proofs.state.ControlState.undo.Goals.{in-Ok, in-Err}
 
-pub returns-clause-ok : goal.returns-clause-ok
-returns-clause-ok g c =
-    let now = c.args.self.now in
-    let name = name_given c.args.event in
-    let w = swap c.self.inside.redo.items c.undo.new.self refl refl c.self.view_is c.requires.from_one c.requires.to_last c.index_mut-list.ensures.value in
-    let x = undo_of now.state.setup.processes now.state.history name in
-    let r = c.in_ok-event.field-0 in
-    let did = c.in_ok-event.ensures in
-    let returned = did.returns ∙ ap (λ (v : StoredState). result_alone (undo_of v.state.setup.processes v.state.history name)) c.self.view_is in
-    let after =
-    changed (λ u. left_by u.history (undo_of u.setup.processes u.history name)) (λ u list. with_taken list r) w c.self.view_is did.after did.list in
-    elim c.match-branch-2.branch [
-      | in-Ok w ↦ rw w.result-is (undone-as now.state _ c.args.seat x r w.in-Ok.event returned after w.in-Ok.is)
-      | in-Err w ↦ rw w.result-is (rw w.refused.ensures (undo_refused-as now.state _ c.args.seat x r w.in-Err.refusal _ returned after w.in-Err.is))
-    ]
+pub returns-in-Err : goal.returns-in-Err
+returns-in-Err g c =
+    let w = list_of c.self.inside.redo.items (rw (← c.self.view_is) at c.requires) c.index_mut-list.ensures.value in
+    rw (← c.self.view_is, c.refused.ensures, w.same c.reserve.new.self c.reserve.ensures.items)
+    (carried_out (undo_refused _ _ _ _ (sym c.refuses_undo.ensures ∙ c.in-Some.is)) (w.grown _ c.reserve.ensures.capacity))
 
-pub returns-clause-capacities : goal.returns-clause-capacities
-returns-clause-capacities g c =
-    let w = swap c.self.inside.redo.items c.undo.new.self refl refl c.self.view_is c.requires.from_one c.requires.to_last c.index_mut-list.ensures.value in
-    w.grown c.undo.ensures.capacity
+pub returns-in_default-refuses_undo : goal.returns-in_default-refuses_undo
+returns-in_default-refuses_undo g c =
+    let w = list_of c.self.inside.redo.items (rw (← c.self.view_is) at c.requires) c.index_mut-list.ensures.value in
+    let old = c.index_mut-list.result.now.ok.0 in
+    rw (← c.self.view_is, w.same c.reserve.new.self c.reserve.ensures.items)
+    (not_carried_out refl (undo_granted _ _ _ _ (not_refused _ (sym c.refuses_undo.ensures ∙ c.in_default-refuses_undo.is)))
+    (λ spared space. omega (arith, ap (λ (l : List Event). length l) w.events, w.capacity, old, c.in-Err.ensures.full, space))
+    (w.grown _ c.reserve.ensures.capacity))
 
-pub returns-in_err-event-clause-err : goal.returns-in_err-event-clause-err
-returns-in_err-event-clause-err g c =
-    let w = swap c.self.inside.redo.items c.undo.new.self refl refl c.self.view_is c.requires.from_one c.requires.to_last c.index_mut-list.ensures.value in
-    let did = c.in_err-event.ensures in
-    let after = changed (λ u. u.history) (λ u list. list) w c.self.view_is did.err did.list_err in
-    on_error c.from_residual.result (after ∙ unchanged c.args.self.now.state c.args.seat)
+pub returns-in-Err-undo : goal.returns-in-Err-undo
+returns-in-Err-undo g c =
+    let w = list_of c.self.inside.redo.items (rw (← c.self.view_is) at c.requires) c.index_mut-list.ensures.value in
+    let is = ap result_err (sym c.undo.ensures.returns ∙ c.in-Err-undo.is) in
+    rw (
+      ← c.self.view_is,
+      c.undo.ensures.after,
+      c.refused-in-Err-undo.ensures,
+      w.same c.reserve.new.self c.reserve.ensures.items,
+      refused_leaves _ (g.R.Runs.run c.self.inside.run).history is,
+    )
+    (carried_out (undo_refused _ _ _ _ is) (w.grown _ c.reserve.ensures.capacity))
 
-pub returns-in_err-event-clause-capacities : goal.returns-in_err-event-clause-capacities
-returns-in_err-event-clause-capacities g c =
-    let w = swap c.self.inside.redo.items c.undo.new.self refl refl c.self.view_is c.requires.from_one c.requires.to_last c.index_mut-list.ensures.value in
-    w.grown c.undo.ensures.capacity
+pub returns : goal.returns
+returns g c =
+    let w = list_of c.self.inside.redo.items (rw (← c.self.view_is) at c.requires) c.index_mut-list.ensures.value in
+    rw (← c.self.view_is, c.undo.ensures.after, w.put c.push_reserved.new.self)
+    (carried_out
+    (undo_done _ _ _ _ _ c.undo.ensures.returns c.in-Ok.is w.events
+    (c.push_reserved.ensures.items ∙ ap (λ (l : List Event). l ++ c.in-Ok.event ∷ []) c.reserve.ensures.items))
+    (w.grown _ (omega (arith, c.reserve.ensures.capacity, c.push_reserved.ensures.capacity))))

@@ -21,7 +21,7 @@ returns c =
     c.as_slice.ensures.value ∙ c.in_ok-weights.ensures.weights ∙ ap (λ (events : List Event). frame_weights frame.took (length events)) c.events.ensures in
     let below = rw (length-map its.frames.items (frame_text rules setup commands its.columns its.room)) at (rw (← c.self.view_is) at c.requires) in
     rw (← c.self.view_is)
-    (IfOk-weaker c.held_picture.result _ _
+    (IfOk-weaker c.weighed_picture.result _ _
     (λ text is. picture_at rules setup commands its.columns its.room its.frames.items c.args.i frame below c.index-frame.ensures text.items
     (is ∙ drawn_so rules setup commands its.columns its.room frame _ _ _ c.grid_of-grid.ensures.value stands weights))
-    c.held_picture.ensures)
+    c.weighed_picture.ensures)

@@ -1,10 +1,6 @@
-use Rattle.std.proofs.Common.{rules, ◌≡◌, length, sym, ◌∙◌}
-use Rattle.std.proofs.lemmas.List.{nil_from_length}
-use Rattle.cdb_leader.proofs.Known.{count_all_kept}
+use Rattle.std.proofs.Common.{◌∙◌}
+use Rattle.cdb_leader.proofs.IndexLaws.{count_kept}
 use Rattle.cdb_leader.proofs.inbox.Inbox.count_first_phase.Goals as goal
 
-pub returns-then-is_empty : goal.returns-then-is_empty
-returns-then-is_empty c =
-    let none : length c.later.result.now ≡ 0 = search rules in
-    c.count.ensures
-    ∙ count_all_kept _ _ _ c.row.ensures.first_phases (sym c.later.ensures ∙ nil_from_length _ none)
+pub returns-then-knows_all : goal.returns-then-knows_all
+returns-then-knows_all c = c.count.ensures ∙ count_kept _ _ _ c.row.ensures.first_phases (c.knows_all.ensures c.if-knows_all.true)

@@ -1,6 +1,6 @@
 use Rattle.std.proofs.Common.{◌≡◌, length, ap, sym, ◌∙◌}
 use Rattle.cdb_leader.specs.Index.{known}
-use Rattle.cdb_leader.proofs.Known.{known_is}
+use Rattle.cdb_leader.proofs.IndexLaws.{known_is}
 use Rattle.cdb_leader.proofs.inbox.Inbox.known.Goals as goal
 
 pub returns : goal.returns

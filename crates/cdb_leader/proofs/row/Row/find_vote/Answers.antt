@@ -1,7 +1,7 @@
 use Rattle.std.proofs.Common.{arith}
 use Rattle.std.proofs.lemmas.Grind.{common_steps}
 use Rattle.std.proofs.lemmas.Option.{gets}
-use Rattle.cdb_leader.proofs.LookUps.{vote_at}
+use Rattle.cdb_leader.proofs.IndexLaws.{vote_at}
 use Rattle.cdb_leader.proofs.row.Row.find_vote.Goals as goal
 
 pub returns-in_err-message_at : goal.returns-in_err-message_at

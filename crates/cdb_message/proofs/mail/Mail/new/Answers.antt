@@ -1,13 +1,12 @@
-use Rattle.std.proofs.Common.{◌∙◌, [], length, ap, sym, arith}
-use Rattle.std.proofs.lemmas.List.{length-replicate}
-use Rattle.std.specs.FinSet as set
+use Rattle.std.proofs.Common.{length, ap, arith}
+use Rattle.std.proofs.lemmas.Grind.{common_steps}
 use Rattle.cdb_message.proofs.mail.Mail.new.Goals as goal
 
 pub invariant_of-result : goal.invariant_of-result
 invariant_of-result c =
-    let sent = ap length c.loop.invariant.0 ∙ length-replicate c.loop.counter [] in
-    let received = ap length c.loop.invariant.1 ∙ length-replicate c.loop.counter set.empty in (
-      sent ∙ sym received,
-      omega (arith, sent),
+    let sent = ap length c.loop.invariant.0 in
+    let received = ap length c.loop.invariant.1 in (
+      grind (arith, common_steps),
+      grind (arith, common_steps),
       λ p s m from is. absurd (c.new-passed.ensures p s m from is),
     )

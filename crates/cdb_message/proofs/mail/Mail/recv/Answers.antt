@@ -1,18 +1,33 @@
-use Rattle.std.proofs.Common.{length-set, sym, ◌∙◌}
-use Rattle.std.specs.FinSet as finite
-use Rattle.cdb_message.specs.Mail.{MailState}
-use Rattle.cdb_message.proofs.Changed.{changed_at, kept_at}
-use Rattle.cdb_message.proofs.Closed.{closed-add_receive}
+use Rattle.std.proofs.Common.{◌∙◌, sym, subst}
+use Rattle.std.proofs.lemmas.Result.{err_from_is_err_and}
+use Rattle.cdb_message.specs.Passed.{IsSound}
+use Rattle.cdb_message.proofs.MailFlags.{received_kept, add_receive-flag}
+use Rattle.cdb_message.proofs.Closed.{sound-add_receive}
 use Rattle.cdb_message.proofs.mail.Mail.recv.Goals as goal
 
 pub invariant_of-self : goal.invariant_of-self
-invariant_of-self c = rw (kept_at c.self.inside.received.items c.index.result c.in_err-insert.ensures.err c.index_mut-names.ensures.value) c.self.invariant
+invariant_of-self c = subst (IsSound c.self.inside.passed) (sym (received_kept
+    c.self.inside.sent.items c.self.inside.received.items c.self.inside.lost.items
+    c.index.result c.index.ensures.value (rw (← c.self.view_is) at c.requires.among) c.index_mut.ensures.value
+    c.set.new.flags c.in_err-set.ensures.err)) c.self.invariant
+
+pub returns-in_err-set-clause-err : goal.returns-in_err-set-clause-err
+returns-in_err-set-clause-err c =
+    let p = err_from_is_err_and c.from_residual.result c.from_residual.ensures.1 in
+    rw (← c.self.view_is, p.1) (received_kept
+    c.self.inside.sent.items c.self.inside.received.items c.self.inside.lost.items
+    c.index.result c.index.ensures.value (rw (← c.self.view_is) at c.requires.among) c.index_mut.ensures.value
+    c.set.new.flags c.in_err-set.ensures.err)
 
 pub invariant_of-self-2 : goal.invariant_of-self-2
-invariant_of-self-2 c =
-    let kept = c.self.invariant in
-    let mail : MailState = record { sent = c.self.inside.sent.items; received = c.self.inside.received.items; lost = c.self.inside.lost } in
-    let within = rw (← c.self.view_is) at c.requires.among in
-    let set_by = changed_at c.self.inside.received.items finite.empty c.index.result c.index.ensures.value within
-    c.index_mut-names.ensures.value (λ s. finite.insert s c.args.name) c.in_ok-insert.ensures.ok in
-    (kept.0 ∙ sym (length-set _ _ _), kept.1, rw set_by (closed-add_receive c.self.inside.passed mail kept.2 c.args.p c.args.name))
+invariant_of-self-2 c = subst (IsSound c.self.inside.passed) (sym (add_receive-flag
+    c.self.inside.sent.items c.self.inside.received.items c.self.inside.lost.items
+    c.index.result c.index.ensures.value (rw (← c.self.view_is) at c.requires.among) c.index_mut.ensures.value
+    c.cell_of_name.result c.cell_of_name.ensures.named c.set.new.flags c.in_ok-set.ensures.ok))
+    (sound-add_receive c.self.inside.passed _ c.self.invariant c.args.p c.args.name)
+
+pub returns-clause-ok : goal.returns-clause-ok
+returns-clause-ok c = c.pass_over.ensures ∙ rw (← c.self.view_is) (add_receive-flag
+    c.self.inside.sent.items c.self.inside.received.items c.self.inside.lost.items
+    c.index.result c.index.ensures.value (rw (← c.self.view_is) at c.requires.among) c.index_mut.ensures.value
+    c.cell_of_name.result c.cell_of_name.ensures.named c.set.new.flags c.in_ok-set.ensures.ok)

@@ -1,16 +1,9 @@
-use Rattle.std.proofs.Common.{ap, ◌∙◌, sym}
+use Rattle.std.proofs.Common.{sym, ap, ◌∙◌}
 use Rattle.cdb_rules.specs.Runs.{result_of_again}
-use Rattle.cdb_run.proofs.Views.{counts_shown, again_shown}
 use Rattle.cdb_run.proofs.run.Run.plan_again.Goals as goal
 
-pub plan_again-requires-clause-steps : goal.plan_again-requires-clause-steps
-plan_again-requires-clause-steps g c =
-    (counts_shown g.P.Process.table c.args.self.now c.proper.ensures c.in-Step.p c.progress.result.now c.progress.ensures).0
-
-pub returns-in-Step : goal.returns-in-Step
-returns-in-Step g c =
-    let table = g.P.Process.table in
-    let run = c.args.self.now in
-    rw (c.setup.ensures, c.mail.ensures.mail, c.registers.ensures) at c.plan_again.ensures
-    ∙ again_shown table run c.proper.ensures c.in-Step.p c.progress.result.now c.progress.ensures c.in-Step.k c.in-Step.kind
-    ∙ ap (result_of_again table run) (sym c.in-Step.is)
+pub returns-in-Lost : goal.returns-in-Lost
+returns-in-Lost g c =
+    rw (c.from.ensures, c.number.ensures.value, c.from-in-Lost.ensures, c.from-in-Lost-2.ensures, c.number-in-Lost.ensures.value)
+    at c.plan_loss.ensures.returns
+    ∙ ap (result_of_again g.P.Process.table c.args.self.now) (sym c.in-Lost.is)

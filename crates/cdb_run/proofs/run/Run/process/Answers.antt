@@ -1,4 +1,4 @@
-use Rattle.cdb_rules.proofs.NamesFound.{among_none}
+use Rattle.cdb_rules.proofs.Undo.{among_none}
 use Rattle.cdb_run.proofs.Views.{process_none}
 use Rattle.cdb_run.proofs.run.Run.process.Goals as goal
 

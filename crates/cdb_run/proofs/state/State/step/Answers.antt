@@ -9,12 +9,13 @@ write-overwritten-requires g c =
     let stood =
     found_there c.args.self.now.processes.items c.index.result c.args.p c.index_mut-progress.result.now
     c.index.ensures.value c.requires.within c.index_mut-progress.ensures.value in
-    c.due-wish.ensures.writable c.args.self.now.registers (c.requires.from c.index_mut-progress.result.now stood).writable
+    c.due-wish.ensures.due c.args.self.now.registers (c.requires.from c.index_mut-progress.result.now stood).due
 
 pub returns-clause-ok : goal.returns-clause-ok
 returns-clause-ok g c =
     let held = c.args.self.now in
     record {
+      may = c.requires;
       progress = c.index_mut-progress.result.now;
       stood =
           found_there held.processes.items c.index.result c.args.p c.index_mut-progress.result.now

@@ -1,5 +1,5 @@
 use Rattle.std.proofs.Common.{true, false}
-use Rattle.cdb_session.proofs.WrittenText.{file_and_text}
+use Rattle.cdb_session.proofs.MovesInOrder.{file_and_text}
 use Rattle.cdb_session.proofs.shown.Shown.put.Goals as goal
 
 pub returns-in-Ok : goal.returns-in-Ok

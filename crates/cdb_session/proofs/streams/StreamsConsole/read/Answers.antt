@@ -1,5 +1,5 @@
 use Rattle.std.proofs.Common.{rules, ◌<◌, length}
-use Rattle.cdb_session.proofs.InputEnd.{read_saves_none, read_to_end}
+use Rattle.cdb_session.proofs.MovesInOrder.{read_saves_none, read_to_end}
 use Rattle.cdb_session.proofs.streams.StreamsConsole.read.Goals as goal
 
 pub returns-clause-moves : goal.returns-clause-moves

@@ -1,6 +1,6 @@
 use Rattle.std.proofs.Common.{refl}
 use Rattle.std.proofs.KnownBytes.{Appends-nil, Consumes-nil}
-use Rattle.cdb_session.proofs.InputEnd.{is_no_end}
+use Rattle.cdb_session.proofs.MovesInOrder.{is_no_end}
 use Rattle.cdb_session.proofs.streams.StreamsConsole.save.Goals as goal
 
 pub returns : goal.returns

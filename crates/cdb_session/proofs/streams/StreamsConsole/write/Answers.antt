@@ -1,5 +1,5 @@
 use Rattle.std.proofs.Common.{rules}
-use Rattle.cdb_session.proofs.InputEnd.{is_no_end, write_asks_not, write_saves_none}
+use Rattle.cdb_session.proofs.MovesInOrder.{is_no_end, write_asks_not, write_saves_none}
 use Rattle.cdb_session.proofs.streams.StreamsConsole.write.Goals as goal
 
 pub returns-clause-moves : goal.returns-clause-moves

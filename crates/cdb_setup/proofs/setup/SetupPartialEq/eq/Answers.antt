@@ -1,7 +1,7 @@
 use Rattle.std.proofs.Common.{rules, ◌≡◌, sym, subst}
 use Rattle.std.specs.Prelude.{Decides}
 use Rattle.cdb_setup.specs.Equal.{are_equal}
-use Rattle.cdb_setup.proofs.Equal.{are_equal_decides}
+use Rattle.cdb_setup.proofs.Whole.{are_equal_decides}
 use Rattle.cdb_setup.proofs.setup.SetupPartialEq.eq.Goals as goal
 
 pub returns-then-eq-2-clause-parts : goal.returns-then-eq-2-clause-parts

@@ -30,28 +30,15 @@ invariant_of-result-4 g c =
       numbered _ (cut.rule.0 ∙ ap without_first both.0) (record { same = its.same; from_one = its.from_one; to_last = its.to_last }),
     )
 
-pub returns-clause-a : goal.returns-clause-a
-returns-clause-a g c =
-    let u = view c.a.inside.pass in
-    let cut = c.another-alone.ensures in
-    let home = cut.queue.1.0 ∙ c.self.view_is ∙ sym c.requires.a.0 ∙ sym (ap (λ (s : SeatView). s.home) c.a.view_is) in
-    let both = met u (view c.b.inside.pass) _ c.take-control.result _ c.b.inside.one c.absorb.ensures.rule c.take-control.ensures.taken c.give.ensures.given in
-    looked (seat_seen u c.take-control.result _ _ _ c.a.view_is home both.1 (cut.rule.1 ∙ ap first_alone both.0))
-
-pub returns-clause-b : goal.returns-clause-b
-returns-clause-b g c =
-    let v = view c.b.inside.pass in
-    let cut = c.another-alone.ensures in
-    let home = cut.queue.0.0 ∙ c.give.ensures.queue.0 ∙ c.take-control.ensures.queue.0 ∙ c.absorb.ensures.queue.0 in
-    let both = met (view c.a.inside.pass) v _ c.take-control.result c.a.inside.one _ c.absorb.ensures.rule c.take-control.ensures.taken c.give.ensures.given in
-    looked (seat_seen v c.take-control.result _ _ _ c.b.view_is home both.2 (cut.rule.0 ∙ ap without_first both.0))
-
-pub returns-clause-met : goal.returns-clause-met
-returns-clause-met g c =
+pub returns : goal.returns
+returns g c =
     let u = view c.a.inside.pass in
     let v = view c.b.inside.pass in
     let control = c.take-control.result in
     let cut = c.another-alone.ensures in
-    let both = met u v _ control _ _ c.absorb.ensures.rule c.take-control.ensures.taken c.give.ensures.given in
-    met_begins (seat_seen u control control c.a.inside.one _ c.a.view_is refl both.1 (cut.rule.1 ∙ ap first_alone both.0))
-    (seat_seen v control control c.b.inside.one _ c.b.view_is refl both.2 (cut.rule.0 ∙ ap without_first both.0))
+    let home_a = cut.queue.1.0 ∙ c.self.view_is ∙ sym c.requires.a.0 ∙ sym (ap (λ (s : SeatView). s.home) c.a.view_is) in
+    let home_b = cut.queue.0.0 ∙ c.give.ensures.queue.0 ∙ c.take-control.ensures.queue.0 ∙ c.absorb.ensures.queue.0 in
+    let both = met u v _ control c.a.inside.one c.b.inside.one c.absorb.ensures.rule c.take-control.ensures.taken c.give.ensures.given in
+    let a = seat_seen u control control c.a.inside.one _ c.a.view_is home_a both.1 (cut.rule.1 ∙ ap first_alone both.0) in
+    let b = seat_seen v control control c.b.inside.one _ c.b.view_is home_b both.2 (cut.rule.0 ∙ ap without_first both.0) in
+    record { a = looked a; b = looked b; met = met_begins a b }

@@ -5,23 +5,21 @@ use Rattle.cdb_standing.proofs.Held.{few, one_event_more, may_lose, lose_kept, l
 use Rattle.cdb_standing.proofs.history.History.push_loss_with.Goals as goal
 
 pub add_loss-requires-clause-sent : goal.add_loss-requires-clause-sent
-add_loss-requires-clause-sent g c = may_lose c.self.invariant.kept c.args.copy (rw (← c.self.view_is) at c.requires.pending) c.has_copy.ensures
+add_loss-requires-clause-sent g c =
+    may_lose c.self.invariant.kept c.args.copy (omega arith) (omega arith) (rw (← c.self.view_is) at c.requires.pending)
 
 pub invariant_of-self : goal.invariant_of-self
 invariant_of-self g c =
     let pending = rw (← c.self.view_is) at c.requires.pending in
+    let kept = c.self.invariant.kept in
     let lost = c.add_loss.ensures in
     one_event_more c.self.invariant (Lost c.args.copy)
-    (lose_kept c.self.invariant.kept c.args.copy pending
-    c.has_copy.ensures lost.same lost.to_nine lost.lost lost.next)
-    (lose_history c.self.invariant.kept c.args.copy pending c.has_copy.ensures lost.same lost.to_nine lost.lost)
+    (lose_kept kept c.args.copy (omega arith) (omega arith) pending lost) (lose_history kept c.args.copy (omega arith) (omega arith) pending lost)
 
 pub returns-clause-added : goal.returns-clause-added
 returns-clause-added g c =
-    let pending = rw (← c.self.view_is) at c.requires.pending in
-    let lost = c.add_loss.ensures in
     rw (← c.self.view_is)
-    (lose_history c.self.invariant.kept c.args.copy pending c.has_copy.ensures lost.same lost.to_nine lost.lost)
+    (lose_history c.self.invariant.kept c.args.copy (omega arith) (omega arith) (rw (← c.self.view_is) at c.requires.pending) c.add_loss.ensures)
 
 pub returns-in_err-left-clause-failed : goal.returns-in_err-left-clause-failed
 returns-in_err-left-clause-failed g c =

@@ -1,6 +1,5 @@
 use Rattle.cdb_base.specs.declared.name.StepId.TheVariants as named
-use Rattle.cdb_standing.proofs.Gathering.{if_ok_mapped}
-use Rattle.cdb_standing.proofs.RollingBack.{step_rolled, loss_rolled}
+use Rattle.cdb_standing.proofs.Gathering.{if_ok_mapped, step_rolled, loss_rolled}
 use Rattle.cdb_standing.proofs.history.History.rolled_back.Goals as goal
 
 pub returns-in-Step : goal.returns-in-Step

@@ -1,7 +1,6 @@
 use Rattle.std.proofs.Common.{◌∙◌}
 use Rattle.cdb_standing.proofs.CutsFound.{zeros}
-use Rattle.cdb_standing.proofs.Gathering.{if_ok_mapped}
-use Rattle.cdb_standing.proofs.RollingBack.{all_in_order}
+use Rattle.cdb_standing.proofs.Gathering.{if_ok_mapped, all_in_order}
 use Rattle.cdb_standing.proofs.history.History.to_vec.Goals as goal
 
 pub returns : goal.returns

@@ -1,5 +1,3 @@
-use Rattle.cdb_standing.specs.Moves.{IsNextStep}
-use Rattle.cdb_standing.specs.Tables.{rows_in, IsPutOn}
 use Rattle.cdb_standing.proofs.Beside.{history_seen, beside_more, step_recorded}
 use Rattle.cdb_standing.proofs.records.Records.push_with.Goals as goal
 
@@ -11,21 +9,16 @@ push_step_with-requires-clause-may g c = rw (history_seen _ _ c.self.view_is) c.
 
 pub invariant_of-self-2 : goal.invariant_of-self-2
 invariant_of-self-2 g c =
-    let low = rows_in c.self.inside.left.items in
-    let high = rows_in c.put_on.new.table.items in
-    let put : IsPutOn c.args.p low c.in_ok-left.left high = rw (← c.index-i.ensures.value, ← c.reserve_step_in.ensures.same) c.put_on.ensures in
-    let next : IsNextStep c.self.inside.history c.args.p c.args.k = rw (history_seen _ _ c.self.view_is) c.requires.may.0 in
-    rw c.in_ok-left.ensures.added
-    (beside_more put c.args.kind c.self.invariant next)
+    let put = rw (c.index-i.ensures.value, c.reserve_in.ensures.same) at c.put_on.ensures in
+    rw c.in_ok-left.ensures.added (beside_more put c.args.k c.args.kind c.self.invariant)
 
 pub returns-clause-ok : goal.returns-clause-ok
 returns-clause-ok g c =
-    let low = rows_in c.self.inside.left.items in
-    let high = rows_in c.put_on.new.table.items in
-    let put : IsPutOn c.args.p low c.in_ok-left.left high = rw (← c.index-i.ensures.value, ← c.reserve_step_in.ensures.same) c.put_on.ensures in
-    let next : IsNextStep c.self.inside.history c.args.p c.args.k = rw (history_seen _ _ c.self.view_is) c.requires.may.0 in (
+    let put = rw (c.index-i.ensures.value, c.reserve_in.ensures.same) at c.put_on.ensures in
+    let its = c.steps_of-count.ensures in (
       c.in_ok-left.left,
       c.in_ok-left.ensures.changed,
       rw (← c.self.view_is, c.in_ok-left.ensures.added)
-          (step_recorded put c.args.kind c.self.invariant next),
+          (step_recorded put c.args.k c.args.kind c.self.invariant its.numbered (rw its.count at its.end)
+          (rw (history_seen _ _ c.self.view_is) c.requires.may.0)),
     )

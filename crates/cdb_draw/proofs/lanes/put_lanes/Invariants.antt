@@ -1,7 +1,0 @@
-use Rattle.std.specs.List.{flat_map, range_with_len}
-use Rattle.cdb_draw.specs.Lanes.{lane_at}
-use Rattle.cdb_streams.specs.Buffers.{IsPut}
-use Rattle.cdb_draw.proofs.lanes.put_lanes.Given as goal
-
-abbrev pub invariant-loop-i : goal.invariant-loop-i
-invariant-loop-i g l = IsPut g.W.Sink.stream l.initial.out l.initial.buffer l.out l.buffer (flat_map (lane_at l.grid l.run l.lanes) (range_with_len 0 l.i))

@@ -1,9 +1,0 @@
-use Rattle.std.proofs.Common.{◌≡◌, length, ap, sym, ◌∙◌}
-use Rattle.cdb_leader.specs.Index.{later}
-use Rattle.cdb_leader.proofs.Known.{later_is}
-use Rattle.cdb_leader.proofs.inbox.Inbox.later.Goals as goal
-
-pub returns : goal.returns
-returns c =
-    let long : c.len.result ≡ length c.deref.result.now = c.len.ensures ∙ sym c.deref.ensures.len in
-    later_is _ _ _ long c.min.ensures ∙ ap later (c.deref.ensures.value ∙ c.self.view_is)

@@ -1,7 +1,0 @@
-use Rattle.std.proofs.Common.{◌≡◌, ◌++◌, take, string_bytes}
-use Rattle.std.specs.List.{flat_map}
-use Rattle.cdb_search.specs.Shrunk.{line_text}
-use Rattle.cdb_search.proofs.lines.push_lines.Given as goal
-
-abbrev pub invariant-loop-command : goal.invariant-loop-command
-invariant-loop-command l = string_bytes l.text ≡ string_bytes l.initial.text ++ flat_map line_text (take l.command-index l.commands)

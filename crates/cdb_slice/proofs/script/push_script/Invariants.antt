@@ -1,7 +1,0 @@
-use Rattle.std.proofs.Common.{◌≡◌, ◌++◌, take, string_bytes}
-use Rattle.std.specs.List.{flat_map}
-use Rattle.cdb_slice.specs.Scripts.{line_text}
-use Rattle.cdb_slice.proofs.script.push_script.Given as goal
-
-abbrev pub invariant-loop-event : goal.invariant-loop-event
-invariant-loop-event l = string_bytes l.text ≡ string_bytes l.initial.text ++ flat_map line_text (take l.event-index l.events)

@@ -1,0 +1,6 @@
+use Rattle.std.proofs.Common.{◌≡◌, ◌++◌, take, string_bytes}
+use Rattle.std.specs.List.{flat_map}
+use Rattle.cdb_text.proofs.text.report.push_each.Given as goal
+
+abbrev pub invariant-loop-item : goal.invariant-loop-item
+invariant-loop-item g l = string_bytes l.text ≡ string_bytes l.initial.text ++ flat_map g.L.Line.text (take l.item-index l.items)

@@ -1,5 +1,0 @@
-use Rattle.cdb_text.proofs.Utf8.{mail_line}
-use Rattle.cdb_text.proofs.text.report.push_mail.Goals as goal
-
-pub push_lines-requires : goal.push_lines-requires
-push_lines-requires c = record { utf8 = mail_line }
