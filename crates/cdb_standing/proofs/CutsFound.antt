@@ -272,11 +272,7 @@ module _ {t : Tables} {forward : Bool} {p k mark : ℕ} {kind : Kind} {looked cu
     less_to_look = sum_falls (λ n. cond forward n (65536 - n)) looked i l within next.fewer
 
     further : (q m : ℕ) → IsMeant forward (set looked i l) q m → IsMeant forward looked q m ⊎ ((q ≡ i + 1) × (m ≡ l))
-    further q m meant =
-        elim (set_cases looked i l q within) [
-          | inl h ↦ ⊎_elim (λ old. inl (rw h.2 old)) (λ now. inr (omega arith, now)) (next.further m (rw h.1 at meant))
-          | inr same ↦ inl (rw same at meant)
-        ]
+    further q m h1 = grind (arith, common_steps, gets, set_cases, within)
 
     pub goes_on : {new : List ℕ} → StaysSoundCut forward t cuts new → IsLookedAt forward t (i + 1) l new → IsWider forward cuts new
         → AreFew forward new → IsCutting forward t p k mark kind (set looked i l) new

@@ -161,11 +161,7 @@ module _ {t : Tables} (sound : IsSound t) where
 
   -- it is cut off where that step is
   pub of_cut : (cuts : List ℕ) (p k : ℕ) (it : Event) → IsOf t p k it → IsCut t cuts it ↔ (cut_of cuts p ≤ k)
-  of_cut cuts p k (event.Step q l kind) of = rw (of.0, of.1) ((λ cut. cut), (λ cut. cut))
-  of_cut cuts p k (event.Lost copy) of = (
-    λ cut. rw (same_message sound of.1 (rw of.0 at cut.1)) (rw of.0 at cut.2),
-    λ cut. (k, rw of.0 of.1, rw of.0 cut),
-  )
+  of_cut cuts p k it h1 = grind (arith, common_steps, gets, same_message)
 
   -- ---- what a step gives
 
@@ -217,9 +213,7 @@ module _ {t : Tables} (sound : IsSound t) where
     moved q = ⊎_elim (λ here. inl (omega arith, here.1)) (λ same. inr same) (set_cases from next.i (next.k + 1) q within)
 
     further : (q : ℕ) → cut_of from q ≤ cut_of after q
-    further q =
-        ⊎_elim (λ here. let e : cut_of from q ≡ cut_of from p = ap (cut_of from) here.0 in let number = is.number in omega arith)
-        (λ same. omega arith) (moved q)
+    further q = grind (arith, common_steps, gets, moved)
 
     behind : cut_of after p ≡ next.k + 1
     behind = let e : p ≡ suc next.i = omega arith in rw e (cut_set from next.i (next.k + 1) within)
@@ -271,14 +265,7 @@ module _ {t : Tables} (sound : IsSound t) where
             ((was.same x).0 h_x).2 (rw same ((of_cut from _ _ y.event of).1 (let number = is.number in omega arith)))
 
     pub less_room : room false after < room false from
-    less_room =
-        let few = sound.few p in
-        let bounds = nth_within (row_of (steps_of t) p) next.k (entry_of next.mark it.kind) it.at in
-        let number = is.number in
-        let inside = within in
-        let e : cut_of from (suc next.i) ≡ cut_of from p = (let f : suc next.i ≡ p = omega arith in ap (cut_of from) f) in
-        let here = cut_at from next.i in
-        sum_falls (λ (m : ℕ). 65536 - m) from next.i (next.k + 1) (omega arith) (omega arith)
+    less_room = grind (arith, common_steps, gets, nth_within, within, cut_at, sum_falls)
 
   pub gathering_begins : {cuts : List ℕ} {found : List Marked} → length cuts ≡ 9 → found ≡ [] → IsGathering t cuts cuts found
   gathering_begins long none =
