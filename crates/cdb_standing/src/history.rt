@@ -86,6 +86,7 @@ impl History {
 
     /// Changes a state as a step does, and adds the step at the end: makes room for it, then calls `change`, then adds
     /// it, which takes no memory. Where there is no room, or `change` fails, nothing is added.
+    #[tactic(auto, using(crate::proofs::Held::history_same))]
     #[inline(always)]
     pub fn push_step_with<S, R, F: FnOnce(&mut S) -> Result<R, NoMemory>>(
         &mut self,
@@ -266,11 +267,8 @@ impl History {
     {
         match name {
             StepId::Step(step) => {
-                in_order(
-                    alloc,
-                    &self.tables,
-                    &cuts_at(&self.tables, true, step.p, step.k),
-                )
+                let cuts = cuts_at(&self.tables, true, step.p, step.k);
+                in_order(alloc, &self.tables, &cuts)
             }
             StepId::Lost(copy) => one_event(alloc, Event::Lost(copy)),
         }

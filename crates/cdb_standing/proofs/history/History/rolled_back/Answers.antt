@@ -5,7 +5,7 @@ pub returns-in-Step : goal.returns-in-Step
 returns-in-Step c =
     rw (← c.self.view_is, c.in-Step.is)
     (if_ok_mapped (λ events ordered.
-    step_rolled c.self.invariant.kept c.in-Step.step.p c.in-Step.step.k c.cuts_at.ensures ordered)
+    step_rolled c.self.invariant.kept c.in-Step.step.p c.in-Step.step.k c.cuts_at-cuts.ensures ordered)
     c.in_order.result c.in_order.ensures)
 
 pub returns-in-Lost : goal.returns-in-Lost
