@@ -1,21 +1,19 @@
 -- What a flag that is set or cleared does to the mail.
 use Rattle.std.proofs.lemmas.Grind.{common_steps}
 use Rattle.std.proofs.lemmas.Option.{gets}
-use Rattle.std.proofs.Common.{◌≡◌, ℕ, ◌+◌, ◌≤◌, Bool, true, false, List, length, slice_set, get_or, Vec, Global}
-use Rattle.std.proofs.Common.{refl, ap, sym, ◌∙◌, arith}
+use Rattle.std.proofs.Common.{◌≡◌, ℕ, ◌+◌, ◌≤◌, Bool, true, false, List, length, slice_set, get_or, Vec, Global, refl, ap, sym, ◌∙◌, arith}
 use Rattle.std.proofs.lemmas.List.{map-set}
 use Rattle.std.proofs.Math.Seq.{map-set_same}
 use Rattle.std.proofs.Math.ListN.{get_or-map as map-get_or}
-use Rattle.std.specs.FinSet as set
 use Rattle.std.specs.Prelude.{unwrap_or}
 use Rattle.cdb_base.specs.Positions.{nth, set_nth}
 use Rattle.cdb_base.specs.declared.name.MsgName.{MsgName}
 use Rattle.cdb_base.specs.declared.name.CopyName.{CopyName}
 use Rattle.cdb_message.specs.declared.mail.Mail.TheInside.{Inside}
 use Rattle.cdb_message.specs.Flags.{flag_in, SetsFlag, names_in, name_at, copy_at, mail_in}
-use Rattle.cdb_message.specs.Mail.{MailState, received_by, is_received, is_lost}
-use Rattle.cdb_message.specs.Mail.{add_receive, add_loss, remove_receive, remove_loss}
-use Rattle.cdb_message.proofs.Tables.{names, copies, contains_key, key_inserted, key_removed, same_keys}
+use Rattle.cdb_message.specs.Mail.{MailState, received_by, is_received, is_lost, add_receive, add_loss, remove_receive, remove_loss}
+use Rattle.cdb_message.proofs.Sets.{names, copies, contains_key, key_inserted, key_removed, same_keys}
+use Rattle.std.specs.FinSet as set
 
 -- the item of process p of a list with one for each
 stands_at : {A : Type 0} (xs : List A) (default : A) (i : ℕ) {p : ℕ} {x : A}

@@ -3,7 +3,7 @@ use Rattle.std.proofs.lemmas.Result.{err_from_is_err_and}
 use Rattle.cdb_message.specs.Mail.{copy_name}
 use Rattle.cdb_message.specs.Passed.{IsSound}
 use Rattle.cdb_message.proofs.MailFlags.{lost_kept, add_loss-flag}
-use Rattle.cdb_message.proofs.Closed.{sound-add_loss}
+use Rattle.cdb_message.proofs.TakenBack.{sound-add_loss}
 use Rattle.cdb_message.proofs.mail.Mail.lose.Goals as goal
 
 pub invariant_of-self : goal.invariant_of-self

@@ -2,7 +2,7 @@ use Rattle.std.proofs.Common.{◌∙◌, sym, subst}
 use Rattle.std.proofs.lemmas.Result.{err_from_is_err_and}
 use Rattle.cdb_message.specs.Passed.{IsSound}
 use Rattle.cdb_message.proofs.MailFlags.{received_kept, add_receive-flag}
-use Rattle.cdb_message.proofs.Closed.{sound-add_receive}
+use Rattle.cdb_message.proofs.TakenBack.{sound-add_receive}
 use Rattle.cdb_message.proofs.mail.Mail.recv.Goals as goal
 
 pub invariant_of-self : goal.invariant_of-self

@@ -2,8 +2,7 @@ use Rattle.std.proofs.Common.{sym, ◌∙◌, subst}
 use Rattle.cdb_message.specs.Mail.{copy_name}
 use Rattle.cdb_message.specs.Passed.{IsSound}
 use Rattle.cdb_message.proofs.MailFlags.{remove_loss-flag}
-use Rattle.cdb_message.proofs.Closed.{sound-remove_loss}
-use Rattle.cdb_message.proofs.TakenBack.{remove_loss-add_loss}
+use Rattle.cdb_message.proofs.TakenBack.{sound-remove_loss, remove_loss-add_loss}
 use Rattle.cdb_message.proofs.mail.Mail.take_back_lose.Goals as goal
 
 pub invariant_of-self : goal.invariant_of-self

@@ -1,8 +1,7 @@
 use Rattle.std.proofs.Common.{sym, ◌∙◌, subst}
 use Rattle.cdb_message.specs.Passed.{IsSound}
 use Rattle.cdb_message.proofs.MailFlags.{remove_receive-flag}
-use Rattle.cdb_message.proofs.Closed.{sound-remove_receive}
-use Rattle.cdb_message.proofs.TakenBack.{remove_receive-add_receive}
+use Rattle.cdb_message.proofs.TakenBack.{sound-remove_receive, remove_receive-add_receive}
 use Rattle.cdb_message.proofs.mail.Mail.take_back_recv.Goals as goal
 
 pub invariant_of-self : goal.invariant_of-self
