@@ -12,7 +12,7 @@ use Rattle.cdb_base.specs.declared.name.CopyName.{CopyName}
 use Rattle.cdb_message.specs.declared.mail.Mail.TheInside.{Inside}
 use Rattle.cdb_message.specs.Flags.{flag_in, SetsFlag, names_in, name_at, copy_at, mail_in}
 use Rattle.cdb_message.specs.Mail.{MailState, received_by, is_received, is_lost, add_receive, add_loss, remove_receive, remove_loss}
-use Rattle.cdb_message.proofs.Sets.{names, copies, contains_key, key_inserted, key_removed, same_keys}
+use Rattle.cdb_message.proofs.Sets.{names, copies, contains_key, key_changed, same_keys}
 use Rattle.std.specs.FinSet as set
 
 -- the item of process p of a list with one for each
@@ -53,12 +53,12 @@ module _ (x : Inside) where
         pub add_receive-flag : SetsFlag flags.items new.items n true
             → mail_in x.sent.items (slice_set x.received.items i new) x.lost.items ≡ add_receive mail p name
         add_receive-flag sets =
-            set_received new ∙ rw (received_is, key_inserted names n named flags.items new.items sets) refl
+            set_received new ∙ rw (received_is, key_changed names n named flags.items new.items true sets) refl
 
         pub remove_receive-flag : SetsFlag flags.items new.items n false
             → mail_in x.sent.items (slice_set x.received.items i new) x.lost.items ≡ remove_receive mail p name
         remove_receive-flag sets =
-            set_received new ∙ rw (received_is, key_removed names n named flags.items new.items sets) refl
+            set_received new ∙ rw (received_is, key_changed names n named flags.items new.items false sets) refl
 
   -- ---- the copies that are lost
 
@@ -71,7 +71,7 @@ module _ (x : Inside) where
 
     module _ (new : List Bool) where
       pub add_loss-flag : SetsFlag x.lost.items new n true → mail_in x.sent.items x.received.items new ≡ add_loss mail copy
-      add_loss-flag sets = λ j. record mail { lost = key_inserted copies n named x.lost.items new sets j }
+      add_loss-flag sets = λ j. record mail { lost = key_changed copies n named x.lost.items new true sets j }
 
       pub remove_loss-flag : SetsFlag x.lost.items new n false → mail_in x.sent.items x.received.items new ≡ remove_loss mail copy
-      remove_loss-flag sets = λ j. record mail { lost = key_removed copies n named x.lost.items new sets j }
+      remove_loss-flag sets = λ j. record mail { lost = key_changed copies n named x.lost.items new false sets j }

@@ -2,6 +2,7 @@
 use Rattle.std.proofs.lemmas.Grind.{common_steps}
 use Rattle.std.proofs.lemmas.Option.{gets}
 use Rattle.std.proofs.Common.{arith, ◌≡◌, true, false, ℕ, zero, suc, ◌+◌, ◌-◌, ◌*◌, ◌/◌, ◌%◌, ◌≤◌, Bool, ◌&&◌, List, length, nat_lt, refl, sym, ap, ◌∙◌}
+use Rattle.std.specs.Prelude.{if◌then◌else◌}
 use Rattle.std.specs.Ordering.{nat_cmp, ordering_then, eq_by_cmp}
 use Rattle.std.specs.declared.cmp.Ordering.{Ordering}
 use Rattle.std.specs.declared.cmp.Ordering.TheVariants.{Equal}
@@ -93,25 +94,18 @@ module _ {K : Type 0} {R : K → K → Ordering} {cell : K → ℕ} {key_at : �
     pub contains_key : (flags : List Bool) → flag_in flags n ≡ set.contains (keys_in flags) k
     contains_key flags = sym (contains-keys flags k ∙ rw (at, named, ties k) refl)
 
-    module _ (old new : List Bool) where
-      -- a flag that is set adds the key, one that is cleared takes it out
-      pub key_inserted : SetsFlag old new n true → keys_in new ≡ set.insert (keys_in old) k
-      key_inserted sets =
-          same_set _ _ (λ q.
-          let one = is_one is_table.antisymmetric q k in
-          let tie = ties k in
-          let here = at in
-          let inserted = set.contains-insert is_table.total (keys_in old) k q in
-          contains-keys new q ∙ rw (sets (cell q), inserted, contains-keys old q) (grind (arith, common_steps, gets)))
-
-      pub key_removed : SetsFlag old new n false → keys_in new ≡ set.remove (keys_in old) k
-      key_removed sets =
-          same_set _ _ (λ q.
-          let one = is_one is_table.antisymmetric q k in
-          let tie = ties k in
-          let here = at in
-          let removed = set.contains-remove is_table.total (keys_in old) k q in
-          contains-keys new q ∙ rw (sets (cell q), removed, contains-keys old q) (grind (arith, common_steps, gets)))
+    -- a flag that is set adds the key, one that is cleared takes it out
+    pub key_changed : (old new : List Bool) (flag : Bool) → SetsFlag old new n flag
+        → keys_in new ≡ (if flag then set.insert (keys_in old) k else set.remove (keys_in old) k)
+    key_changed old new flag sets =
+        same_set _ _ (λ q.
+        let one = is_one is_table.antisymmetric q k in
+        let tie = ties k in
+        let here = at in
+        let inserted = set.contains-insert is_table.total (keys_in old) k q in
+        let removed = set.contains-remove is_table.total (keys_in old) k q in
+        let was = contains-keys old q in
+        contains-keys new q ∙ rw (sets (cell q)) (grind (arith, common_steps, gets)))
 
 -- ---- of names and of copies
 
