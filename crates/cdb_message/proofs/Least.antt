@@ -1,21 +1,31 @@
--- The pending message that is found first is the least.
+-- Which messages were sent, and that the pending one that is found first is the least.
 use Rattle.std.proofs.lemmas.Grind.{common_steps}
-use Rattle.std.proofs.Common.{◌≡◌, ◌≢◌, ℕ, zero, suc, ◌+◌, ◌<◌, ◌≤◌, ◌⊎◌, inl, inr, Bool, true, false, ◌&&◌}
-use Rattle.std.proofs.Common.{List, [], ◌∷◌, length, Option, None, Some, find, filter, map, max, refl, arith}
+use Rattle.std.proofs.lemmas.Option.{gets}
+use Rattle.std.proofs.Common.{◌≡◌, ℕ, ◌≤◌, true, ◌&&◌, length, nat_le, arith, ◌≢◌, zero, suc, ◌+◌, ◌<◌, ◌⊎◌, inl, inr, Bool, false, List, [], ◌∷◌, Option, None}
+use Rattle.std.proofs.Common.{Some, find, filter, map, max, refl}
+use Rattle.std.proofs.lemmas.Bool.Decides.{nat_tests}
+use Rattle.cdb_base.specs.declared.name.MsgName.{MsgName}
+use Rattle.cdb_message.specs.Mail.{MailState, message_name, sent_by, is_sent, sent_names, messages_of, is_open, is_above, next_pending, IsPending}
+use Rattle.cdb_message.specs.Mail.{IsLeastPending, HasNonePending}
 use Rattle.std.specs.Prelude.{MatchOption}
 use Rattle.std.specs.List.{range_with_len, flat_map}
 use Rattle.std.specs.Option.{option_or}
 use Rattle.std.proofs.lemmas.Bool.{cases_Bool, cases_eq}
-use Rattle.std.proofs.lemmas.Bool.Decides.{nat_tests}
 use Rattle.std.proofs.lemmas.List.Folds.{find-append}
-use Rattle.cdb_base.specs.declared.name.MsgName.{MsgName}
-use Rattle.cdb_message.specs.Mail.{MailState, message_name, sent_by, sent_names, messages_of, is_open, is_above}
-use Rattle.cdb_message.specs.Mail.{next_pending, IsPending, IsLeastPending, HasNonePending}
 use Rattle.cdb_message.specs.Passed.{HasNoneOpen}
 use Rattle.cdb_message.specs.Search.{IsLeastOf, IsNext, IsLowestAbove}
 use Rattle.cdb_message.specs.Names.{is_name_below}
 use Rattle.cdb_message.proofs.RisingNumbers.{all_nine}
-use Rattle.cdb_message.proofs.Sent.{is_sent_within, sent_where}
+
+-- a message was sent where its number is from 1 to the number of sends
+pub is_sent_within : (mail : MailState) (s m : ℕ)
+    → is_sent mail (message_name s m) ≡ (nat_le 1 m && nat_le m (length (sent_by mail s)))
+is_sent_within mail s m = grind (arith, common_steps, gets, nat_tests)
+
+-- so by a process that is there
+pub sent_where : (mail : MailState) (name : MsgName) → is_sent mail name ≡ true
+    → (1 ≤ name.s) × (name.s ≤ length mail.sent) × (1 ≤ name.m) × (name.m ≤ length (sent_by mail name.s))
+sent_where mail name sent = grind (arith, common_steps, gets)
 
 -- ---- the least of some names
 

@@ -1,8 +1,5 @@
-pub mod Closed
-pub mod Tables
 pub mod Sets
 pub mod TakenBack
-pub mod Sent
 pub mod RisingNumbers
 pub mod Least
 pub mod MailFlags

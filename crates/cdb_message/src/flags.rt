@@ -6,7 +6,7 @@ ghost use Rattle.cdb_message.specs.Flags.{flag_in, SetsFlag, cells, name_at, cop
 use cdb_base::{CopyName, MsgName, NoMemory};
 
 /// The cell of a name.
-#[tactic(auto, using(crate::proofs::Tables::name_itself))]
+#[tactic(auto, using(crate::proofs::Sets::name_itself))]
 pub(crate) fn cell_of_name(name: MsgName) -> usize
     ensures named { name_at result ≡ name }
     ensures small { result < 2 ^ 20 }
@@ -15,7 +15,7 @@ pub(crate) fn cell_of_name(name: MsgName) -> usize
 }
 
 /// The cell of a copy.
-#[tactic(auto, using(crate::proofs::Tables::copy_itself))]
+#[tactic(auto, using(crate::proofs::Sets::copy_itself))]
 pub(crate) fn cell_of_copy(copy: CopyName) -> usize
     ensures named { copy_at result ≡ copy }
     ensures small { result < cells }

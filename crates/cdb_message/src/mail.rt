@@ -199,7 +199,7 @@ impl Mail {
     }
 
     /// Whether process `s` has sent an `m`-th message.
-    #[tactic(auto, using(crate::proofs::Sent::is_sent_within))]
+    #[tactic(auto, using(crate::proofs::Least::is_sent_within))]
     fn was_sent(&self, s: Proc, m: u32) -> bool
         ensures value { result ≡ is_sent self.now (message_name s m) }
         ensures limit { IsTrue result → m ≤ MAX_STEPS }

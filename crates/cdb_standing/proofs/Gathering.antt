@@ -1,6 +1,6 @@
 -- What numbers cut off, as it is gathered, and in the order of its marks: the whole history, or a step with its consequences.
 use Rattle.std.proofs.lemmas.Grind.{common_steps}
-use Rattle.std.proofs.Common.{◌≡◌, ◌≢◌, ℕ, suc, ◌+◌, ◌<◌, ◌≤◌, ◌++◌, Bool, false, nat_eq, List, [], ◌∷◌, Some, inl, inr, ⊎_elim, refl, sym}
+use Rattle.std.proofs.Common.{◌≡◌, ◌≢◌, ℕ, suc, ◌+◌, ◌<◌, ◌≤◌, ◌++◌, Bool, true, false, nat_eq, List, [], ◌∷◌, Some, inl, inr, ⊎_elim, refl, sym}
 use Rattle.std.proofs.Common.{ap, ◌∙◌, arith, ◌-◌, Option, ◌⊎◌, length, set, length-set, None, ◌↔◌, zero, slice_get}
 use Rattle.std.specs.Prelude.{IsPermutation, Result, Ok, Err, IfOk}
 use Rattle.std.specs.List.Sorted.{IsNonDecreasingBy}
@@ -19,16 +19,15 @@ use Rattle.cdb_base.specs.declared.event.Event.{Event}
 use Rattle.cdb_base.specs.declared.event.Kind.{Kind}
 use Rattle.cdb_base.specs.declared.event.Kind.TheVariants.{Send}
 use Rattle.cdb_base.specs.declared.name.CopyName.{CopyName}
-use Rattle.cdb_standing.specs.Cuts.{cut_of, IsCut, AreConsequencesCut}
+use Rattle.cdb_standing.specs.Cuts.{cut_of, IsCut, AreCutsOf, room}
 use Rattle.cdb_standing.specs.Gathered.{losses_of, of_step, IsOf, HasOtherEvent, AreGathered, AreInOrder, IsNext, NoneIsLeft, IsGathered}
-use Rattle.cdb_standing.specs.Pasts.{room}
 use Rattle.cdb_standing.specs.Tables.{IsMessage, steps_of, sent_of, row_of, copy_named, loss_at, losses_to, entry_of, IsEntry, IsCopy, Stands, IsSound}
 use Rattle.cdb_standing.specs.Tables.{history_in, standing}
 use Rattle.cdb_standing.specs.declared.tables.Copied.{Copied}
 use Rattle.cdb_standing.specs.declared.tables.Copied.TheVariants.{Lost}
 use Rattle.cdb_standing.specs.declared.order.Next.{Next}
 use Rattle.cdb_standing.specs.declared.tables.Sent.{Sent}
-use Rattle.cdb_standing.proofs.CutsFound.{cut_at, cut_set, set_cases, sum_falls}
+use Rattle.cdb_standing.proofs.CutsFound.{cut_at, cut_set, set_cases, sum_falls, same_message, exactly_cut}
 use Rattle.cdb_standing.proofs.Listed.{marked, standing_rising, standing_only, standing_has}
 use Rattle.cdb_standing.proofs.Links.{same_entry, process_within}
 use Rattle.cdb_standing.proofs.Rows.{nth_within, each_one_only, each_one_has}
@@ -42,7 +41,7 @@ use Rattle.cdb_causal.proofs.Chains.{parted, rolled_back_split, consequences_par
 use Rattle.cdb_causal.proofs.Lists.{nth_map}
 use Rattle.cdb_causal.proofs.Parted.{none_found}
 use Rattle.cdb_standing.specs.Kept.{AreKept}
-use Rattle.cdb_standing.specs.Moves.{IsStandingName}
+use Rattle.cdb_standing.proofs.Places.{the_place, step_of_name}
 use Rattle.cdb_standing.proofs.LinksFound.{first_of_loss}
 use Rattle.cdb_base.specs.declared.event.Event.TheVariants as event
 use Rattle.cdb_base.specs.declared.name.StepId.TheVariants as named
@@ -153,9 +152,6 @@ pub record IsGathering (t : Tables) (cuts from : List ℕ) (found : List Marked)
 module _ {t : Tables} (sound : IsSound t) where
   -- ---- of what step an event is
 
-  same_message : {s m k l : ℕ} → IsMessage (sent_of t) s m k → IsMessage (sent_of t) s m l → k ≡ l
-  same_message one other = grind (arith, common_steps, gets)
-
   pub origin : (mark : ℕ) (it : Event) → Stands t mark it → (p : ℕ) × (k : ℕ) × (a : ℕ) × (kind : Kind) × IsEntry t p k a kind × IsOf t p k it
   origin mark (event.Step p k kind) at = (p, k, mark, kind, at, (refl, refl))
   origin mark (event.Lost copy) at =
@@ -165,11 +161,7 @@ module _ {t : Tables} (sound : IsSound t) where
 
   -- it is cut off where that step is
   pub of_cut : (cuts : List ℕ) (p k : ℕ) (it : Event) → IsOf t p k it → IsCut t cuts it ↔ (cut_of cuts p ≤ k)
-  of_cut cuts p k (event.Step q l kind) of = rw (of.0, of.1) ((λ cut. cut), (λ cut. cut))
-  of_cut cuts p k (event.Lost copy) of = (
-    λ cut. rw (same_message of.1 (rw of.0 at cut.1)) (rw of.0 at cut.2),
-    λ cut. (k, rw of.0 of.1, rw of.0 cut),
-  )
+  of_cut cuts p k it h1 = grind (arith, common_steps, gets, same_message)
 
   -- ---- what a step gives
 
@@ -221,9 +213,7 @@ module _ {t : Tables} (sound : IsSound t) where
     moved q = ⊎_elim (λ here. inl (omega arith, here.1)) (λ same. inr same) (set_cases from next.i (next.k + 1) q within)
 
     further : (q : ℕ) → cut_of from q ≤ cut_of after q
-    further q =
-        ⊎_elim (λ here. let e : cut_of from q ≡ cut_of from p = ap (cut_of from) here.0 in let number = is.number in omega arith)
-        (λ same. omega arith) (moved q)
+    further q = grind (arith, common_steps, gets, moved)
 
     behind : cut_of after p ≡ next.k + 1
     behind = let e : p ≡ suc next.i = omega arith in rw e (cut_set from next.i (next.k + 1) within)
@@ -274,15 +264,8 @@ module _ {t : Tables} (sound : IsSound t) where
             let of = (its_only y h_y).1 in
             ((was.same x).0 h_x).2 (rw same ((of_cut from _ _ y.event of).1 (let number = is.number in omega arith)))
 
-    pub less_room : room after < room from
-    less_room =
-        let few = sound.few p in
-        let bounds = nth_within (row_of (steps_of t) p) next.k (entry_of next.mark it.kind) it.at in
-        let number = is.number in
-        let inside = within in
-        let e : cut_of from (suc next.i) ≡ cut_of from p = (let f : suc next.i ≡ p = omega arith in ap (cut_of from) f) in
-        let here = cut_at from next.i in
-        sum_falls (λ (m : ℕ). 65536 - m) from next.i (next.k + 1) (omega arith) (omega arith)
+    pub less_room : room false after < room false from
+    less_room = grind (arith, common_steps, gets, nth_within, within, cut_at, sum_falls)
 
   pub gathering_begins : {cuts : List ℕ} {found : List Marked} → length cuts ≡ 9 → found ≡ [] → IsGathering t cuts cuts found
   gathering_begins long none =
@@ -403,9 +386,9 @@ module _ {t : Tables} (sound : IsSound t)
       (ordered.same x).1 (there, (of_cut sound cuts _ _ x.event of.5).1 (let zero_is = none of.0 in omega arith))))
 
   -- a step with its consequences
-  pub cut_in_order : (name : StepId) → AreConsequencesCut t name cuts → (at : ℕ)
-      → IsNamedAt (history_in t) at name → 1 ≤ at → events ≡ rolled_back depends (history_in t) at
-  cut_in_order name are at named one =
+  pub cut_in_order : (at : ℕ) → ((other : ℕ) (it : Event) → nth (history_in t) other ≡ Some it
+      → IsCut t cuts it ↔ IsRolledBack depends (history_in t) at other) → 1 ≤ at → events ≡ rolled_back depends (history_in t) at
+  cut_in_order at are one =
       let part =
       part_of (IsRolledBack depends (history_in t) at) 1 (standing t)
       (standing_rising t) (parted depends (history_in t) at one) in
@@ -415,12 +398,12 @@ module _ {t : Tables} (sound : IsSound t)
       (λ x h.
       let cut = (ordered.same x).0 h in
       let found = has_at (standing t) x (standing_has t sound.marked x.mark x.event cut.0) in
-      part.all (suc found.0) found.0 x (omega arith) found.1 ((are at named (suc found.0) x.event (event_there found.0 x found.1)).0 cut.1))
+      part.all (suc found.0) found.0 x (omega arith) found.1 ((are (suc found.0) x.event (event_there found.0 x found.1)).0 cut.1))
       (λ x h.
       let found = part.only x h in
       let number : found.0 ≡ suc found.1 = omega arith in
       let there = standing_only t x (at_has (standing t) found.1 x found.3) in
-      (ordered.same x).1 (there, (are at named (suc found.1) x.event (event_there found.1 x found.3)).1 (rw number at found.4))))
+      (ordered.same x).1 (there, (are (suc found.1) x.event (event_there found.1 x found.3)).1 (rw number at found.4))))
       ∙ part.are
     where
       event_there : (i : ℕ) (x : Marked) → slice_get (standing t) i ≡ Some x → nth (history_in t) (suc i) ≡ Some x.event
@@ -435,10 +418,12 @@ module _ {t : Tables} (kept : AreKept t) where
   abbrev IsRolledBackFrom : StepId → List Event → Type 0
   IsRolledBackFrom name events = (at : ℕ) → IsNamedAt (history_in t) at name → events ≡ rolled_back depends (history_in t) at
 
-  pub step_rolled : (name : StepId) {cuts : List ℕ} {events : List Event}
-      → (IsStandingName (history_in t) name → AreConsequencesCut t name cuts)
-      → AreInOrder cuts t events → IsRolledBackFrom name events
-  step_rolled name are ordered at h = cut_in_order kept.sound ordered name (are (at, h)) at h (from_one (history_in t) at name h)
+  pub step_rolled : (p k : ℕ) {cuts : List ℕ} {events : List Event} → AreCutsOf true t p k cuts → AreInOrder cuts t events
+      → IsRolledBackFrom (named.Step (record { p = p; k = k })) events
+  step_rolled p k are ordered at h =
+      let at_k = step_of_name kept.sound p k at h in
+      let place = the_place kept.sound at_k.0 (event.Step p k at_k.1) at_k.2 at h in
+      cut_in_order kept.sound ordered at (exactly_cut kept.sound (are at_k.0 at_k.1 at_k.2) at place) (from_one (history_in t) at _ h)
 
   pub loss_rolled : (copy : CopyName) (events : List Event) → events ≡ event.Lost copy ∷ [] → IsRolledBackFrom (named.Lost copy) events
   loss_rolled copy events are at h =

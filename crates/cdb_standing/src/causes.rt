@@ -39,7 +39,7 @@ fn by_list(list: &[Access], ahead: u64) -> Option<u16>
 
 /// The number of the last step of process `q` on which the `k`-th step of process `p` depends: its own last step before
 /// it, or else the send of what it receives, or the last access of its register with which it is in conflict.
-fn last_cause_of_step(
+pub(crate) fn last_cause_of_step(
     tables: &Tables,
     p: Proc,
     k: u16,

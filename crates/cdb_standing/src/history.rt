@@ -19,12 +19,11 @@ use crate::accesses::number_of;
 use crate::add::{add_loss, add_step, reserve_mark, reserve_step};
 use crate::causes::causes_in;
 use crate::compare::{have_same_losses, writes_before};
-use crate::cuts::cuts_at;
+use crate::cuts::{cuts_at, past_in};
 use crate::dependents::first_of_step;
 use crate::find::find_in;
 use crate::may::{is_next_step, is_pending, may_do};
 use crate::order::{in_order, one_event};
-use crate::past::past_in;
 use crate::table::{empty_rows, item, row};
 use crate::tables::Tables;
 use crate::take::{take_loss, take_step};
@@ -87,6 +86,7 @@ impl History {
 
     /// Changes a state as a step does, and adds the step at the end: makes room for it, then calls `change`, then adds
     /// it, which takes no memory. Where there is no room, or `change` fails, nothing is added.
+    #[tactic(auto, using(crate::proofs::Held::history_same))]
     #[inline(always)]
     pub fn push_step_with<S, R, F: FnOnce(&mut S) -> Result<R, NoMemory>>(
         &mut self,
@@ -267,7 +267,8 @@ impl History {
     {
         match name {
             StepId::Step(step) => {
-                in_order(alloc, &self.tables, &cuts_at(&self.tables, step.p, step.k))
+                let cuts = cuts_at(&self.tables, true, step.p, step.k);
+                in_order(alloc, &self.tables, &cuts)
             }
             StepId::Lost(copy) => one_event(alloc, Event::Lost(copy)),
         }

@@ -1,5 +1,5 @@
 use Rattle.std.proofs.Common.{◌≡◌, ◌+◌, suc, refl, sym, true≢false, below_more, arith}
-use Rattle.cdb_standing.proofs.Losses.{all_messages}
+use Rattle.cdb_standing.proofs.Numbered.{all_messages}
 use Rattle.cdb_standing.proofs.compare.lose_same.Goals as goal
 
 pub loop-j-preserved : goal.loop-j-preserved

@@ -1,5 +1,5 @@
-use Rattle.std.proofs.Common.{◌<◌}
-use Rattle.cdb_standing.specs.Pasts.{room}
+use Rattle.std.proofs.Common.{◌<◌, false}
+use Rattle.cdb_standing.specs.Cuts.{room}
 use Rattle.cdb_standing.proofs.Gathering.{IsGathering}
 use Rattle.cdb_standing.proofs.order.gathered.Given as goal
 
@@ -10,4 +10,4 @@ invariant-loop-next l = record {
 }
 
 abbrev pub decreases-loop-next : goal.decreases-loop-next
-decreases-loop-next l = room l.from
+decreases-loop-next l = room false l.from

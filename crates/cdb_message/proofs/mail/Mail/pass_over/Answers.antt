@@ -1,4 +1,4 @@
-use Rattle.cdb_message.proofs.Closed.{sound-raised}
+use Rattle.cdb_message.proofs.TakenBack.{sound-raised}
 use Rattle.cdb_message.proofs.mail.Mail.pass_over.Goals as goal
 
 pub invariant_of-self : goal.invariant_of-self

@@ -1,4 +1,4 @@
-use Rattle.cdb_standing.proofs.Losses.{lose_same_is}
+use Rattle.cdb_standing.proofs.Numbered.{lose_same_is}
 use Rattle.cdb_standing.proofs.history.History.has_same_losses.Goals as goal
 
 pub returns : goal.returns

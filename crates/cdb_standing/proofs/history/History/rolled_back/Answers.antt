@@ -1,4 +1,3 @@
-use Rattle.cdb_base.specs.declared.name.StepId.TheVariants as named
 use Rattle.cdb_standing.proofs.Gathering.{if_ok_mapped, step_rolled, loss_rolled}
 use Rattle.cdb_standing.proofs.history.History.rolled_back.Goals as goal
 
@@ -6,7 +5,7 @@ pub returns-in-Step : goal.returns-in-Step
 returns-in-Step c =
     rw (← c.self.view_is, c.in-Step.is)
     (if_ok_mapped (λ events ordered.
-    step_rolled c.self.invariant.kept (named.Step c.in-Step.step) c.cuts_at.ensures ordered)
+    step_rolled c.self.invariant.kept c.in-Step.step.p c.in-Step.step.k c.cuts_at-cuts.ensures ordered)
     c.in_order.result c.in_order.ensures)
 
 pub returns-in-Lost : goal.returns-in-Lost
