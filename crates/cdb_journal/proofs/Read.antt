@@ -1,11 +1,10 @@
 -- A journal that is under way of being read.
 use Rattle.std.proofs.Common.{◌≡◌, ℕ, ◌+◌, List, [], ◌∷◌, ◌++◌, length, refl, sym, ap, ◌∙◌, append_assoc, append-nil, arith, length-append}
 use Rattle.cdb_control.specs.declared.control.Entry.{Entry}
-use Rattle.cdb_text.specs.Entries.{IsEntryLine, IsFaultOfEntry}
-use Rattle.cdb_text.specs.declared.fault.LineFault.{LineFault}
+use Rattle.cdb_text.specs.Entries.{IsEntryLine}
 use Rattle.cdb_streams.specs.Lines.{lines_of}
 use Rattle.cdb_streams.proofs.CutLines.{no_lines}
-use Rattle.cdb_journal.specs.Journals.{AreEntriesOf, IsFirstBadEntry}
+use Rattle.cdb_journal.specs.Journals.{AreEntriesOf}
 
 -- the lines read so far are those of the entries, and what is left has the others
 pub record IsUnderWay (text : List ℕ) (entries : List Entry) (rest : List ℕ) : Type 0 where
@@ -13,9 +12,6 @@ pub record IsUnderWay (text : List ℕ) (entries : List Entry) (rest : List ℕ)
   pub whole : lines_of text ≡ read ++ lines_of rest
   pub entries_are : AreEntriesOf entries read
   pub so_many : length entries ≡ length read
-
-pub begun : (text : List ℕ) → IsUnderWay text [] text
-begun text = record { read = []; whole = refl; entries_are = tt; so_many = refl }
 
 one_more : (entries : List Entry) (lines : List (List ℕ)) (e : Entry) (line : List ℕ) → AreEntriesOf entries lines
     → IsEntryLine e.seat e.command line → AreEntriesOf (entries ++ e ∷ []) (lines ++ line ∷ [])
@@ -43,9 +39,6 @@ module _ (text : List ℕ) (entries : List Entry) (rest line behind : List ℕ)
         entries_are = one_more entries u.read e line u.entries_are is;
         so_many = omega (arith, u.so_many, length-append entries (e ∷ []), length-append u.read (line ∷ []));
       }
-
-  pub bad_line : (fault : LineFault) → IsFaultOfEntry fault line → IsFirstBadEntry (length entries + 1) fault (lines_of text)
-  bad_line fault is = (entries, u.read, line, lines_of behind, split, omega (arith, u.so_many), u.entries_are, is)
 
 pub ended : (text : List ℕ) (entries : List Entry) (rest : List ℕ) → IsUnderWay text entries rest → length rest ≡ 0 → AreEntriesOf entries (lines_of text)
 ended text entries rest u none =

@@ -17,9 +17,8 @@ use Rattle.std.proofs.lemmas.List.{length-take, take_all}
 use Rattle.std.proofs.lemmas.Slice.Eq.{bytes_eq-Decides}
 use Rattle.cdb_setup.specs.Format.{longest}
 use Rattle.cdb_session.specs.Typed.{line_meant}
-use Rattle.cdb_session.proofs.OneRequest.{only_too_long}
+use Rattle.cdb_session.proofs.OneRequest.{only_own, only_too_long, own_reads}
 use Rattle.cdb_session.specs.Exchanges.{Exchange}
-use Rattle.cdb_session.specs.declared.request.Request.{Request}
 use Rattle.cdb_session.specs.declared.request.Request.TheVariants.{Quit, TooLong}
 
 -- ---- how much of a line is held
@@ -118,11 +117,10 @@ asks_whole (request, answer) line asks =
     ]
 
 -- a line that asks for something else is not `quit`
-not_quit : (request : Request) (line : List ℕ) → AsksFor request line → request ≢ Quit → line ≢ quit_line
-not_quit request line asks other = grind (arith, common_steps, gets)
-
 pub is_not_quit : (exchange : Exchange) (line : List ℕ) → Asks exchange line → exchange.0 ≢ Quit → ¬ IsQuit line
-is_not_quit exchange line asks other = not_quit exchange.0 (line_meant line) asks other
+is_not_quit exchange line asks other is =
+    let meant = line_meant line in
+    other (only_own meant (omega (arith, ap length is)) Quit (own_reads Quit meant is) exchange.0 asks)
 
 -- ---- lines one after the other
 

@@ -7,7 +7,7 @@ use Rattle.std.specs.Prelude.{codes, Option, Some, None}
 use Rattle.std.specs.Str.Parse.{AllDigits}
 use Rattle.std.proofs.lemmas.Bool.{cases_Bool, and_from, and_parts, not-true, or_from, or_parts}
 use Rattle.std.proofs.lemmas.Bool.Decides.{nat_tests}
-use Rattle.std.proofs.lemmas.Fmt.{digits_decimal, decimal_nonempty, decimal_digit}
+use Rattle.std.proofs.lemmas.Fmt.{digits_decimal, decimal_nonempty}
 use Rattle.std.proofs.lemmas.Grind.{common_steps}
 use Rattle.std.proofs.lemmas.List.Splits.{join_with_byte-slice_split}
 use Rattle.std.proofs.lemmas.Option.{gets}
@@ -26,6 +26,8 @@ use Rattle.cdb_session.specs.Inquiries.{AreAnyStepWords, AreInquiryWords, has_ot
 use Rattle.cdb_session.specs.Laws.{ExactLinesStand}
 use Rattle.cdb_session.specs.Repeats.{repeat_parts}
 use Rattle.cdb_session.specs.Requests.{most_seats, help_line, seat_line, watch_line}
+use Rattle.cdb_session.specs.declared.request.Request.TheVariants.{Call, Ask, Watch, Seat, Help, Quit}
+use Rattle.cdb_session.proofs.OneRequest.{seat_words}
 use Rattle.cdb_session.specs.Typed.{is_blank, is_comment, is_mark, is_name, is_word, parts_of, due, only, full, up_to_comment, with_piece, words_meant}
 use Rattle.cdb_session.specs.Typed.{line_meant}
 use Rattle.cdb_session.proofs.TypedWords.{no_name}
@@ -242,18 +244,16 @@ watch_stands begins = grind (arith, common_steps, gets)
 
 seat_stands : (seat : ℕ) → IsWithin 1 most_seats seat → line_meant (seat_line seat) ≡ seat_line seat
 seat_stands seat within =
-    let no_space : nat_eq (48 + seat) 32 ≡ false = grind (arith, nat_tests) in
     let parts : List CommandPart = fixed "seat" ∷ number seat ∷ [] in
-    let are : words_of (seat_line seat) ≡ map part_text parts = rw (decimal_digit seat (omega arith), no_space) refl in
-    exact (seat_line seat) (map part_text parts) are (parts_stand [] parts (search rules) (tt, ((omega arith, omega arith), tt)))
+    exact (seat_line seat) (map part_text parts) (seat_words seat within) (parts_stand [] parts (search rules) (tt, ((omega arith, omega arith), tt)))
 
 pub exact_lines_stand : ExactLinesStand
 unfolding line_meant words_meant
-exact_lines_stand line (inl (inl (about, is))) = rw is (help_stands about)
-exact_lines_stand line (inl (inr (inl is))) = rw is refl
-exact_lines_stand line (inl (inr (inr (inl (seat, within, is))))) = rw is (seat_stands seat within)
-exact_lines_stand line (inl (inr (inr (inr (inl (inquiry, is)))))) = exact line (words_of line) refl (inquiry_stands inquiry (words_of line) is)
-exact_lines_stand line (inl (inr (inr (inr (inr (inl (p, times, is))))))) =
-    exact line _ is.0 (parts_stand [] (repeat_parts p times) (search rules) is.1)
-exact_lines_stand line (inl (inr (inr (inr (inr (inr (begins, is))))))) = rw is (watch_stands begins)
+exact_lines_stand line (inl (Call command times, (p, same, is))) = exact line _ is.0 (parts_stand [] (repeat_parts p times) (search rules) is.1)
+exact_lines_stand line (inl (Ask inquiry, is)) = exact line (words_of line) refl (inquiry_stands inquiry (words_of line) is)
+exact_lines_stand line (inl (Watch begins, is)) = rw is (watch_stands begins)
+exact_lines_stand line (inl (Seat seat, (within, is))) = rw is (seat_stands seat within)
+exact_lines_stand line (inl (Help about, is)) = rw is (help_stands about)
+exact_lines_stand line (inl (Quit, is)) = rw is refl
+exact_lines_stand line (inl (other, none)) = absurd none
 exact_lines_stand line (inr (command, is)) = exact line _ is.0 (parts_stand [] (command_parts command) (search rules) is.1)

@@ -1,31 +1,29 @@
 -- A line in which nothing is amiss is one that a session takes.
 use Rattle.std.proofs.lemmas.Grind.{common_steps}
 use Rattle.std.proofs.lemmas.Option.{gets}
-use Rattle.std.proofs.Common.{◌≡◌, inl, inr, ℕ, ◌+◌, true, false, ◌||◌, List, [], ◌∷◌, decimal, refl, sym, ap, subst, ◌∙◌, arith, rules}
-use Rattle.std.specs.List.{AllByRecursion, list_any, join_with_byte}
+use Rattle.std.proofs.Common.{◌≡◌, inl, inr, ℕ, true, false, ◌||◌, List, [], ◌∷◌, refl, sym, ap, subst, ◌∙◌, arith, rules}
+use Rattle.std.specs.List.{AllByRecursion, list_any}
 use Rattle.std.specs.Prelude.{codes, map, Option, None, Some, Result, Ok, Err, is_some, is_ok, ◌⊎◌}
 use Rattle.std.specs.Str.{bytes_eq}
 use Rattle.std.proofs.Math.Bool.{or-false}
 use Rattle.std.proofs.lemmas.Bool.{and_parts, cases_Bool}
-use Rattle.std.proofs.lemmas.Fmt.{decimal_digit}
-use Rattle.std.proofs.lemmas.List.Splits.{join_with_byte-slice_split}
 use Rattle.std.proofs.lemmas.Slice.Eq.{bytes_eq-Decides}
-use Rattle.cdb_setup.specs.Parts.{IsWithin}
 use Rattle.cdb_commands.specs.declared.command.Command.{Command}
 use Rattle.cdb_text.proofs.Whole.{one_command}
 use Rattle.cdb_text.specs.Grammar.{IsLineOf, words_of}
 use Rattle.cdb_text.specs.Lines.{after_process, after_step, after_break, after_show, after_verb, whole_line}
-use Rattle.cdb_text.specs.Numbers.{number_of}
+use Rattle.cdb_text.specs.Numbers.{number_of, is_number as is_numeral}
 use Rattle.cdb_text.specs.Readers.{read_by, register_named}
 use Rattle.cdb_session.specs.declared.due.Due.{Due}
 use Rattle.cdb_session.specs.declared.topic.Topic.{Topic}
 use Rattle.cdb_session.specs.Due.{amiss_in, with_process, behind, behind_act, behind_first, dues_of, first_amiss, is_number, may_stand, nothing, registers}
-use Rattle.cdb_session.specs.InquiryWords.{step_in, any_step_in, drawing_in, inquiry_in, repeat_in}
+use Rattle.cdb_session.specs.Due.{seats}
+use Rattle.cdb_session.specs.RequestWords.{step_in, any_step_in, drawing_in, own_in}
 use Rattle.cdb_session.specs.Laws.{SoundLinesAreTaken}
-use Rattle.cdb_session.specs.Requests.{IsOwn, most_seats}
+use Rattle.cdb_session.specs.Requests.{IsOwn}
 use Rattle.cdb_session.specs.Topics.{topic_of, topic_word, topics}
 use Rattle.cdb_session.specs.Typed.{acts, first_words}
-use Rattle.cdb_session.proofs.OneRequest.{its_topic, inquiry_says, repeat_says}
+use Rattle.cdb_session.proofs.OneRequest.{own_says, topic_again}
 use Rattle.cdb_session.specs.declared.due.Due.TheVariants as due
 use Rattle.cdb_session.specs.declared.topic.Topic.TheVariants as topic
 
@@ -62,23 +60,16 @@ read_taken : (words : List (List ℕ)) → IsRead words → IsTaken words
 read_taken words is line are =
     let command = ok_of (read_by whole_line words) is in inr (command.0, rw are ((one_command words command.0).0 command.1))
 
--- or as what is asked of the run
+-- or as one that a session takes beside commands
 some_of : {A : Type 0} (o : Option A) → is_some o ≡ true → (a : A) × (o ≡ Some a)
 some_of (Some a) is = (a, refl)
 some_of None is = absurd cc
 
-inquiry_taken : (words : List (List ℕ)) → is_some (inquiry_in words) ≡ true → IsTaken words
-inquiry_taken words is line are =
-    let inquiry = some_of (inquiry_in words) is in inl (inr (inr (inr (inl (inquiry.0, rw are (inquiry_says words inquiry.0 inquiry.1))))))
+abbrev IsReadOwn : List (List ℕ) → Type 0
+IsReadOwn words = is_some (own_in words) ≡ true
 
--- or as a command that is repeated
-repeat_taken : (words : List (List ℕ)) → is_some (repeat_in words) ≡ true → IsTaken words
-repeat_taken words is line are =
-    let ((p, times), reads) = some_of (repeat_in words) is in
-    inl (inr (inr (inr (inr (inl (p, times, repeat_says line p times (rw are reads)))))))
-
-own_taken : (words : List (List ℕ)) → IsOwn (join_with_byte 32 words) → IsTaken words
-own_taken words own line are = inl (rw (sym (join_with_byte-slice_split 32 line) ∙ ap (join_with_byte 32) are) own)
+own_taken : (words : List (List ℕ)) → IsReadOwn words → IsTaken words
+own_taken words is line are = let (request, reads) = some_of (own_in words) is in inl (request, own_says line request (rw are reads))
 
 -- ---- line by line
 
@@ -146,9 +137,8 @@ break_read (stop ∷ words) is =
     ]
 
 -- `auto P`, or `auto P N`
-auto_read : (words : List (List ℕ)) → IsSound (with_process due.Count words) words
-    → IsRead (codes "auto" ∷ words) ⊎ (is_some (repeat_in (codes "auto" ∷ words)) ≡ true)
-unfolding whole_line repeat_in step_in
+auto_read : (words : List (List ℕ)) → IsSound (with_process due.Count words) words → IsRead (codes "auto" ∷ words) ⊎ IsReadOwn (codes "auto" ∷ words)
+unfolding whole_line own_in step_in topic_of
 auto_read [] is = absurd cc
 auto_read (p ∷ []) is = inl (grind (arith, common_steps, gets))
 auto_read (p ∷ n ∷ words) is = inr (grind (arith, common_steps, gets))
@@ -157,33 +147,33 @@ auto_taken : (words : List (List ℕ)) → IsSound (with_process due.Count words
 auto_taken words is =
     elim (auto_read words is) [
       | inl once ↦ read_taken _ once
-      | inr often ↦ repeat_taken _ often
+      | inr often ↦ own_taken _ often
     ]
 
 -- `seat S`
-seat_taken : (words : List (List ℕ)) → IsSound (due.Seat ∷ []) words → IsTaken (codes "seat" ∷ words)
-seat_taken [] is = absurd cc
-seat_taken (word ∷ words) is =
+seat_read : (words : List (List ℕ)) → IsSound (due.Seat ∷ []) words → IsReadOwn (codes "seat" ∷ words)
+unfolding own_in topic_of number_of is_numeral
+seat_read [] is = absurd cc
+seat_read (word ∷ words) is =
     let here = next due.Seat [] word words is in
-    let all : List ℕ = 1 ∷ 2 ∷ 3 ∷ 4 ∷ 5 ∷ 6 ∷ 7 ∷ 8 ∷ 9 ∷ [] in
-    let seat = one_of (IsWithin 1 most_seats) (λ seat. (48 + seat) ∷ []) all (search rules) word (and_parts _ _ here.0).0 in
-    rw (over words here.1, seat.2 ∙ sym (decimal_digit seat.0 (omega (arith, seat.1))))
-    (own_taken (codes "seat" ∷ decimal seat.0 ∷ []) (inr (inr (inl (seat.0, seat.1, refl)))))
+    let name = one_of (λ (name : List ℕ). IsReadOwn (codes "seat" ∷ name ∷ [])) (λ name. name) seats (search rules) word (and_parts _ _ here.0).0 in
+    rw (over words here.1, name.2) name.1
 
 -- a word that may begin a line
 a_topic : (word : List ℕ) → list_any (bytes_eq word) first_words ≡ true → (t : Topic) × Unit {0} × (word ≡ topic_word t)
 a_topic word is = one_of (λ t. Unit {0}) topic_word topics (search rules) word is
 
 -- `help`, or `help WORD`
-help_taken : (words : List (List ℕ)) → IsSound (behind topic.Help words) words → IsTaken (codes "help" ∷ words)
-help_taken [] is = own_taken (codes "help" ∷ []) (inl (None, refl))
-help_taken (word ∷ words) is =
+help_read : (words : List (List ℕ)) → IsSound (behind topic.Help words) words → IsReadOwn (codes "help" ∷ words)
+unfolding own_in topic_of
+help_read [] is = refl
+help_read (word ∷ words) is =
     let here = next due.Command [] word words is in
     let t = a_topic word (and_parts _ _ here.0).0 in
-    rw (over words here.1, t.2) (own_taken (codes "help" ∷ topic_word t.0 ∷ []) (inl (Some t.0, refl)))
+    rw (over words here.1, t.2, topic_again t.0) refl
 
 by_topic : (first : Topic) (words : List (List ℕ)) → IsSound (behind first words) words → IsTaken (topic_word first ∷ words)
-unfolding whole_line after_verb after_show inquiry_in drawing_in any_step_in step_in topic_of
+unfolding whole_line after_verb after_show own_in drawing_in any_step_in step_in topic_of
 by_topic topic.Step words is = read_taken _ (step_read words is)
 by_topic topic.Auto words is = auto_taken words is
 by_topic topic.Lose words is = read_taken (codes "lose" ∷ words) (grind (arith, common_steps, gets))
@@ -193,14 +183,14 @@ by_topic topic.Why words is = read_taken (codes "why" ∷ words) (grind (arith, 
 by_topic topic.Break words is = read_taken _ (break_read words is)
 by_topic topic.Unbreak words is = read_taken (codes "unbreak" ∷ words) (grind (arith, common_steps, gets))
 by_topic topic.Show words is = read_taken (codes "show" ∷ words) (grind (arith, common_steps, gets))
-by_topic topic.Explain words is = inquiry_taken (codes "explain" ∷ words) (grind (arith, common_steps, gets))
-by_topic topic.Trail words is = inquiry_taken (codes "trail" ∷ words) (grind (arith, common_steps, gets))
-by_topic topic.Draw words is = inquiry_taken (codes "draw" ∷ words) (grind (arith, common_steps, gets))
-by_topic topic.Watch words is = rw (over words is) (own_taken (codes "watch" ∷ []) (inr (inr (inr (inr (inr (true, refl)))))))
-by_topic topic.Unwatch words is = rw (over words is) (own_taken (codes "unwatch" ∷ []) (inr (inr (inr (inr (inr (false, refl)))))))
-by_topic topic.Help words is = help_taken words is
-by_topic topic.Quit words is = rw (over words is) (own_taken (codes "quit" ∷ []) (inr (inl refl)))
-by_topic topic.Seat words is = seat_taken words is
+by_topic topic.Explain words is = own_taken (codes "explain" ∷ words) (grind (arith, common_steps, gets))
+by_topic topic.Trail words is = own_taken (codes "trail" ∷ words) (grind (arith, common_steps, gets))
+by_topic topic.Draw words is = own_taken (codes "draw" ∷ words) (grind (arith, common_steps, gets))
+by_topic topic.Watch words is = rw (over words is) (own_taken (codes "watch" ∷ []) refl)
+by_topic topic.Unwatch words is = rw (over words is) (own_taken (codes "unwatch" ∷ []) refl)
+by_topic topic.Help words is = own_taken _ (help_read words is)
+by_topic topic.Quit words is = rw (over words is) (own_taken (codes "quit" ∷ []) refl)
+by_topic topic.Seat words is = own_taken _ (seat_read words is)
 -- each other word is a whole line
 by_topic topic.Redo words is = rw (over words is) (read_taken (codes "redo" ∷ []) refl)
 by_topic topic.Forget words is = rw (over words is) (read_taken (codes "forget" ∷ []) refl)
@@ -212,7 +202,7 @@ all_taken [] is = absurd cc
 all_taken (word ∷ words) is =
     let here = next due.Command (behind_first (topic_of word) words) word words is in
     let t = a_topic word (and_parts _ _ here.0).0 in
-    let known : topic_of word ≡ Some t.0 = ap topic_of t.2 ∙ its_topic (Some t.0) in
+    let known : topic_of word ≡ Some t.0 = ap topic_of t.2 ∙ topic_again t.0 in
     rw t.2 (by_topic t.0 words (subst (λ (found : Option Topic). IsSound (behind_first found words) words) known here.1))
 
 pub sound_lines_are_taken : SoundLinesAreTaken

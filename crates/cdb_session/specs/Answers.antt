@@ -34,7 +34,7 @@ module _ (style : StyleView) where
   entries_from at (exchange ∷ exchanges) =
       entries_at at.seat exchange ++ entries_from (next_place style at exchange) exchanges
 
-  -- of each of these lines, before which so many commands were given, this holds
+  -- this holds of each of these lines; the count is that of the commands before it
   abbrev pub EachLine : (ℕ → Place → Exchange → Type 0) → ℕ → Place → List Exchange → Type 0
   EachLine IsSo count at [] = Unit {0}
   EachLine IsSo count at (exchange ∷ exchanges) =
@@ -43,7 +43,8 @@ module _ (style : StyleView) where
 
 -- of a run, what is asked of it and an answer, whether it is that answer
 module _ (Answers : RunView → Inquiry → Answer → Type 0) where
-  -- this answers what is asked of the run that the first entries leave, no less than some, with just these commands
+  -- this answers what is asked of the run that some first entries leave, at least a given number, which hold exactly
+  -- this count of the session's commands
   abbrev pub AnswersAfter : ℕ → Part → ℕ → Inquiry → Answer → Type 0
   AnswersAfter least part count inquiry answer =
       (first : ℕ) × HaveJust least part count first × Answers (part.left_by first) inquiry answer

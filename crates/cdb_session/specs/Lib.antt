@@ -22,6 +22,6 @@ pub mod Debugs
 pub mod Laws
 -- ---- what the code keeps for itself
 pub mod TypedWords
-pub mod InquiryWords
+pub mod RequestWords
 pub mod Lines
 pub mod Unfinished

@@ -25,7 +25,7 @@ abbrev pub news_up_to : Part → Option ℕ → ℕ → List ℕ
 news_up_to part None to = []
 news_up_to part (Some from) to = part.news from to
 
--- For whoever watches, of a journal that had so many commands of the session, and no less than the least of entries
+-- For whoever watches, of a journal when it had this count of the session's commands, and at least the least of entries
 module _ (part : Part) (count least : ℕ) (watched : Option ℕ) where
   -- it was seen up to there, and these are the news up to there
   pub record AreNews (seen : ℕ) (news : List ℕ) : Type 0 where

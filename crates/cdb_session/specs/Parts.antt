@@ -8,7 +8,7 @@ use Rattle.cdb_session.specs.declared.request.Request.{Request}
 use Rattle.cdb_session.specs.declared.request.Request.TheVariants.{Call, Seat}
 use Rattle.cdb_session.specs.Styles.{Part}
 
--- These first entries of the journal, no less than some, have just so many commands of the session.
+-- These first entries of the journal, at least a given number, hold exactly this count of the session's commands.
 pub record HaveJust (least : ℕ) (part : Part) (count first : ℕ) : Type 0 where
   pub no_less : least ≤ first
   pub within : first ≤ part.entries

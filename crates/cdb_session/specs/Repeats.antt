@@ -13,8 +13,8 @@ abbrev pub IsRepeatLine : ℕ → ℕ → List ℕ → Type 0
 IsRepeatLine p times line =
     (words_of line ≡ map part_text (repeat_parts p times)) × AllByRecursion IsInRange (repeat_parts p times)
 
--- These are all replies to a command that is to be given so many times: it is given until it is refused, or there is
--- no reply since the journal is full.
+-- All replies to a command that a line gives this many times at most: until it is refused, or until the journal is
+-- full.
 abbrev pub AreAllReplies : Type 0 → ℕ → List ReplyView → Type 0
 AreAllReplies Full zero got = got ≡ []
 AreAllReplies Full (suc times) [] = Full

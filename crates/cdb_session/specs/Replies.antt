@@ -11,8 +11,8 @@ use Rattle.cdb_session.specs.Styles.{StyleView}
 use Rattle.cdb_session.specs.declared.request.Request.TheVariants.{Call, Ask}
 use Rattle.cdb_session.specs.declared.session.Place.{Place}
 
--- The texts of the replies to a command that is to be given so many times. Where they end before it is refused, the
--- journal is full.
+-- The texts of the replies to a command that a line gives this many times at most. Where they end sooner, and not with
+-- a refusal, the journal is full.
 abbrev pub replies_text : ℕ → List ReplyView → List ℕ
 replies_text zero got = []
 replies_text (suc times) [] = full_text

@@ -15,7 +15,6 @@ use Rattle.cdb_session.specs.Inquiries.{IsInquiryLine}
 use Rattle.cdb_session.specs.Repeats.{IsRepeatLine}
 use Rattle.cdb_session.specs.Topics.{topic_word}
 use Rattle.cdb_session.specs.Typed.{line_meant}
-use Rattle.cdb_session.specs.declared.inquiry.Inquiry.{Inquiry}
 use Rattle.cdb_session.specs.declared.topic.Topic.{Topic}
 use Rattle.cdb_session.specs.declared.request.Request.{Request}
 use Rattle.cdb_session.specs.declared.request.Request.TheVariants.{Call, Ask, Watch, Seat, Help, Quit, Fault, TooLong}
@@ -49,29 +48,28 @@ watch_line false = codes "unwatch"
 abbrev pub seat_line : ℕ → List ℕ
 seat_line seat = codes "seat " ++ decimal seat
 
+-- the line is the one of these that asks for this
+abbrev pub MeansOwn : Request → List ℕ → Type 0
+MeansOwn (Call command times) line = (p : ℕ) × (command ≡ Auto p) × IsRepeatLine p times line
+MeansOwn (Ask inquiry) line = IsInquiryLine inquiry line
+MeansOwn (Watch begins) line = line ≡ watch_line begins
+MeansOwn (Seat seat) line = IsWithin 1 most_seats seat × (line ≡ seat_line seat)
+MeansOwn (Help about) line = line ≡ help_line about
+MeansOwn Quit line = line ≡ quit_line
+MeansOwn other line = ⊥
+
 -- the line is one of these
 abbrev pub IsOwn : List ℕ → Type 0
-IsOwn line =
-    ((about : Option Topic) × (line ≡ help_line about))
-    ⊎ ((line ≡ quit_line)
-    ⊎ (((seat : ℕ) × IsWithin 1 most_seats seat × (line ≡ seat_line seat))
-    ⊎ (((inquiry : Inquiry) × IsInquiryLine inquiry line)
-    ⊎ (((p : ℕ) × (times : ℕ) × IsRepeatLine p times line)
-    ⊎ ((begins : Bool) × (line ≡ watch_line begins))))))
+IsOwn line = (request : Request) × MeansOwn request line
 
 -- ---- what a line asks for
 
 -- What a line that is not too long asks for: one of these, a command, or nothing, and then it has a fault.
 abbrev pub Means : Request → List ℕ → Type 0
 Means (Call command times) line =
-    ((¬ IsOwn line) × IsLineOf command line × (times ≡ 1)) ⊎ ((p : ℕ) × (command ≡ Auto p) × IsRepeatLine p times line)
-Means (Ask inquiry) line = IsInquiryLine inquiry line
-Means (Watch begins) line = line ≡ watch_line begins
-Means (Seat seat) line = IsWithin 1 most_seats seat × (line ≡ seat_line seat)
-Means (Help about) line = line ≡ help_line about
-Means Quit line = line ≡ quit_line
+    ((¬ IsOwn line) × IsLineOf command line × (times ≡ 1)) ⊎ MeansOwn (Call command times) line
 Means (Fault faulty) line = (¬ IsOwn line) × IsFaultOf faulty.fault line × (faulty.line ≡ line)
-Means TooLong line = ⊥
+Means request line = MeansOwn request line
 
 -- What a line asks for that stands for itself. One that is longer than a script can be is too long, whatever it is.
 abbrev pub AsksFor : Request → List ℕ → Type 0

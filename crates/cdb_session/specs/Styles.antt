@@ -1,5 +1,5 @@
 -- What a session shows beside its responses, and what calls do to the part of a journal that is its own.
-use Rattle.std.specs.Prelude.{◌≡◌, ℕ, ◌≤◌, Bool, true, List, [], ◌∷◌, ◌++◌, decimal, Result, Ok, Err, if◌then◌else◌}
+use Rattle.std.specs.Prelude.{◌≡◌, ℕ, ◌≤◌, Bool, true, List, [], ◌∷◌, ◌++◌, Result, Ok, Err}
 use Rattle.cdb_base.specs.Limits.{MAX_ENTRIES}
 use Rattle.cdb_commands.specs.ReplyView.{ReplyView, reply_view}
 use Rattle.cdb_commands.specs.declared.reply.Reply.{Reply}
@@ -18,13 +18,9 @@ pub record StyleView : Type 0 where
   pub first : ℕ
   pub chooses : Bool
 
--- a prompt with the number of the seat, or without it
-abbrev pub prompt_at : Bool → ℕ → List ℕ → List ℕ
-prompt_at numbered seat prompt = if numbered then (decimal seat ++ prompt) else prompt
-
--- What a journal has of a session and of those before it: its entries, in order; the replies to them, each at its
--- position in the journal; how many entries the journal has in all; of so many of its first entries how many are of the
--- session, and the run that they leave; and of two positions the news of others between them.
+-- What a journal has of a session, and of those that it goes on from: their entries, in order, and the reply to each;
+-- how many entries the journal has in all; how many of its first entries are theirs, and the run that these leave; and
+-- the news of others between two positions.
 pub record Part : Type 0 where
   pub calls : List Entry
   pub replies : List ReplyView

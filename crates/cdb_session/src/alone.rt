@@ -47,6 +47,7 @@ impl<R: Runs, A: Answers<R>> Caller for OwnControl<R, A> {
 
     ghost later = { IsLaterControl };
 
+    #[tactic(auto, using(crate::proofs::OwnControl::calls_made))]
     fn call(&mut self, alloc: Global, seat: u8, command: Command) -> Result<Reply, CallFault> {
         self.control.execute(alloc, seat, command)
     }
@@ -69,6 +70,7 @@ impl<R: Runs, A: Answers<R>> Caller for OwnControl<R, A> {
 /// # Errors
 /// `Setup` with the setup's first fault; else `Line` and `ScriptTooLong`, as of script 1, where the journal is none,
 /// and `Line` with the fault Number for its first line of a seat beyond the last. `NoMemory` where an allocation fails.
+#[tactic(auto, using(crate::proofs::FromSetup::journal_failed, crate::proofs::FromSetup::setup_failed))]
 pub fn begin<R: Runs>(
     alloc: Global,
     setup: &[u8],
@@ -123,8 +125,8 @@ pub fn debug<R: Runs, A: Answers<R>, T: Console>(
     let (control, greeting) = begun;
     let style = Style {
         greeting: greeting_at(greeting.as_slice(), prompt),
+        number: &[],
         prompt,
-        numbered: false,
         first: 1,
         chooses: true,
     };

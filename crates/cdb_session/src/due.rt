@@ -9,6 +9,7 @@ ghost use Rattle.cdb_session.specs.Due.{due_text, names, words_at, may_stand};
 ghost use Rattle.cdb_session.specs.Due.{behind, dues_of};
 ghost use Rattle.cdb_session.specs.Due.{ends, stands, first_amiss, amiss_in, shown_byte, shown_word, amiss_text};
 
+use self::Due::*;
 use crate::inquiry::is_file_name;
 use crate::topic::{FIRST, Topic};
 use crate::typed::{ACTS, LOST, STOPS, VIEWS};
@@ -124,21 +125,15 @@ fn act(words: &[&[u8]]) -> &'static [Due]
     ensures { result.now ≡ Due.Command ∷ behind Topic.Step (map (λ it. it.now) words.now) }
 {
     let [_, act, others @ ..] = words else {
-        return &[Due::Command, Due::Process, Due::Act];
+        return &[Command, Process, Act];
     };
     if *act == b"recv".as_slice() {
-        return &[
-            Due::Command,
-            Due::Process,
-            Due::Act,
-            Due::Process,
-            Due::Message,
-        ];
+        return &[Command, Process, Act, Process, Message];
     }
     if *act == b"query".as_slice() && !others.is_empty() {
-        return &[Due::Command, Due::Process, Due::Act, Due::Process];
+        return &[Command, Process, Act, Process];
     }
-    &[Due::Command, Due::Process, Due::Act]
+    &[Command, Process, Act]
 }
 
 /// What is due in a line that begins so, where these are its other words.
@@ -148,43 +143,37 @@ fn line_of(first: Topic, words: &[&[u8]]) -> &'static [Due]
     match first {
         Topic::Step => act(words),
         Topic::Auto => match words {
-            [] | [_] => &[Due::Command, Due::Process],
-            _ => &[Due::Command, Due::Process, Due::Count],
+            [] | [_] => &[Command, Process],
+            _ => &[Command, Process, Count],
         },
-        Topic::Lose => &[Due::Command, Due::Process, Due::Message, Due::Process],
+        Topic::Lose => &[Command, Process, Message, Process],
         Topic::Undo | Topic::Rollback | Topic::Why => match words {
-            [] => &[Due::Command, Due::ProcessOrLost],
-            [first, ..] if *first == b"lost".as_slice() => &[
-                Due::Command,
-                Due::ProcessOrLost,
-                Due::Process,
-                Due::Message,
-                Due::Process,
-            ],
-            _ => &[Due::Command, Due::ProcessOrLost, Due::Step],
+            [] => &[Command, ProcessOrLost],
+            [first, ..] if *first == b"lost".as_slice() => {
+                &[Command, ProcessOrLost, Process, Message, Process]
+            }
+            _ => &[Command, ProcessOrLost, Step],
         },
         Topic::Break => match words {
-            [] => &[Due::Command, Due::Stop],
-            [stop, ..] if *stop == b"round".as_slice() => {
-                &[Due::Command, Due::Stop, Due::Process, Due::Round]
-            }
-            [stop, ..] if *stop == b"write".as_slice() => &[Due::Command, Due::Stop, Due::Register],
-            _ => &[Due::Command, Due::Stop, Due::Process],
+            [] => &[Command, Stop],
+            [stop, ..] if *stop == b"round".as_slice() => &[Command, Stop, Process, Round],
+            [stop, ..] if *stop == b"write".as_slice() => &[Command, Stop, Register],
+            _ => &[Command, Stop, Process],
         },
-        Topic::Unbreak => &[Due::Command, Due::Breakpoint],
-        Topic::Show => &[Due::Command, Due::ProcessOrView],
+        Topic::Unbreak => &[Command, Breakpoint],
+        Topic::Show => &[Command, ProcessOrView],
         Topic::Explain | Topic::Trail => match words {
-            [] | [_] => &[Due::Command, Due::Process],
-            _ => &[Due::Command, Due::Process, Due::Step],
+            [] | [_] => &[Command, Process],
+            _ => &[Command, Process, Step],
         },
         Topic::Draw => match words {
-            [] | [_] => &[Due::Command, Due::File],
-            [_, _] => &[Due::Command, Due::File, Due::Process],
-            _ => &[Due::Command, Due::File, Due::Process, Due::Step],
+            [] | [_] => &[Command, File],
+            [_, _] => &[Command, File, Process],
+            _ => &[Command, File, Process, Step],
         },
-        Topic::Help if !words.is_empty() => &[Due::Command, Due::Command],
-        Topic::Seat => &[Due::Command, Due::Seat],
-        _ => &[Due::Command],
+        Topic::Help if !words.is_empty() => &[Command, Command],
+        Topic::Seat => &[Command, Seat],
+        _ => &[Command],
     }
 }
 
@@ -193,11 +182,11 @@ fn dues_of(words: &[&[u8]]) -> &'static [Due]
     ensures { result.now ≡ dues_of (map (λ it. it.now) words.now) }
 {
     let [word, others @ ..] = words else {
-        return &[Due::Command];
+        return &[Command];
     };
     match Topic::of(word) {
         Some(first) => line_of(first, others),
-        None => &[Due::Command],
+        None => &[Command],
     }
 }
 

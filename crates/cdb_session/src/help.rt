@@ -39,6 +39,7 @@ fn push_seats(text: &mut String, seats: bool) -> Result<(), AllocError>
 }
 
 /// The first word of a line of the help, which stands behind two spaces.
+#[tactic(auto, using(std::proofs::lemmas::List::take_rest))]
 fn first_word(line: &[u8]) -> &[u8]
     ensures { result.now ≡ first_word line.now }
 {

@@ -2,13 +2,11 @@
 
 ghost use Rattle.std.specs.Prelude.{◌≡◌};
 ghost use Rattle.std.specs.List.{list_any};
-ghost use Rattle.cdb_text.specs.Grammar.{words_of};
 ghost use Rattle.cdb_text.specs.Words.{words_left};
 ghost use Rattle.cdb_session.specs.Inquiries.{has_other_meaning, is_file_name, is_one_piece};
 ghost use Rattle.cdb_session.specs.Typed.{is_blank};
-ghost use Rattle.cdb_session.specs.InquiryWords.{any_step_in, drawing_in, inquiry_in, repeat_in, step_in};
+ghost use Rattle.cdb_session.specs.RequestWords.{any_step_in, drawing_in, step_in};
 
-use crate::topic::Topic;
 use crate::typed::{is_blank, is_comment, is_digits, is_name, is_word};
 use cdb_base::StepAsked;
 use cdb_text::{first_word, number_of};
@@ -43,8 +41,8 @@ pub enum Inquiry<'a> {
 }
 
 /// The step that the words behind the first one name.
-#[tactic(auto, unfolding(crate::specs::InquiryWords::step_in))]
-fn step_of(words: Option<&[u8]>) -> Option<StepAsked>
+#[tactic(auto, unfolding(crate::specs::RequestWords::step_in), using(crate::proofs::OneRequest::first_of))]
+pub(crate) fn step_of(words: Option<&[u8]>) -> Option<StepAsked>
     ensures { result ≡ step_in (words_left words.entry) }
 {
     let (first, others) = first_word(words?);
@@ -62,16 +60,13 @@ fn step_of(words: Option<&[u8]>) -> Option<StepAsked>
 }
 
 /// The step that the words behind a file's name ask for, none where there are no words.
-#[tactic(auto, unfolding(crate::specs::InquiryWords::any_step_in))]
+#[tactic(auto, unfolding(crate::specs::RequestWords::any_step_in), using(crate::proofs::OneRequest::first_of))]
 fn any_step_of(words: Option<&[u8]>) -> Option<Option<StepAsked>>
     ensures { result ≡ any_step_in (words_left words.entry) }
 {
     match words {
         None => Some(None),
-        Some(line) => match step_of(Some(line)) {
-            Some(step) => Some(Some(step)),
-            None => None,
-        },
+        Some(_) => Some(Some(step_of(words)?)),
     }
 }
 
@@ -104,8 +99,8 @@ pub(crate) fn is_file_name(word: &[u8]) -> bool
 }
 
 /// The picture that the words behind `draw` ask for.
-#[tactic(auto, unfolding(crate::specs::InquiryWords::drawing_in))]
-fn drawing_of(words: Option<&[u8]>) -> Option<Inquiry<'_>>
+#[tactic(auto, unfolding(crate::specs::RequestWords::drawing_in))]
+pub(crate) fn drawing_of(words: Option<&[u8]>) -> Option<Inquiry<'_>>
     ensures { result ≡ drawing_in (words_left words.entry) }
 {
     let (bytes, others) = first_word(words?);
@@ -114,31 +109,4 @@ fn drawing_of(words: Option<&[u8]>) -> Option<Inquiry<'_>>
     }
     let step = any_step_of(others)?;
     Some(Inquiry::Draw(FileName { bytes }, step))
-}
-
-/// The process and the count of a line `auto P N`.
-#[tactic(auto, unfolding(crate::specs::InquiryWords::repeat_in))]
-pub(crate) fn repeat_of(line: &[u8]) -> Option<(u32, u32)>
-    ensures { result ≡ repeat_in (words_of line.now) }
-{
-    let (word, others) = first_word(line);
-    if word != b"auto".as_slice() {
-        return None;
-    }
-    let step = step_of(others)?;
-    Some((step.p, step.k?))
-}
-
-/// What a line asks of the run, if it does.
-#[tactic(auto, unfolding(crate::specs::InquiryWords::inquiry_in))]
-pub(crate) fn inquiry_of(line: &[u8]) -> Option<Inquiry<'_>>
-    ensures { result ≡ inquiry_in (words_of line.now) }
-{
-    let (word, others) = first_word(line);
-    match Topic::of(word)? {
-        Topic::Explain => Some(Inquiry::Explain(step_of(others)?)),
-        Topic::Trail => Some(Inquiry::Trail(step_of(others)?)),
-        Topic::Draw => drawing_of(others),
-        _ => None,
-    }
 }

@@ -14,7 +14,6 @@ use crate::feed::{feed, respond_to_line};
 use crate::session::Session;
 use crate::style::Style;
 use cdb_streams::{Failed, PlayFault};
-use itoa::Buffer;
 use std::alloc::Global;
 
 /// How many bytes are asked for at a time.
@@ -68,26 +67,14 @@ pub fn run<C: Caller, T: Console>(
     (caller, outcome)
 }
 
-/// Shows the prompt. It takes no memory.
-fn write_prompt<T: Console>(style: &Style<'_>, console: &mut T) -> Result<(), Failed>
-    ensures { WritesAll result (T.known console.old) (T.known console.new)
-        (says style.now.prompt) }
-{
-    if !style.numbered {
-        return write_all(console, style.prompt);
-    }
-    let mut buffer = Buffer::new();
-    write_all(console, buffer.format(style.first).as_bytes())?;
-    write_all(console, style.prompt)
-}
-
 /// Shows the greeting and the first prompt. It takes no memory.
 fn write_opening<T: Console>(style: &Style<'_>, console: &mut T) -> Result<(), Failed>
     ensures { WritesAll result (T.known console.old) (T.known console.new)
         (says (style.now.greeting ++ style.now.prompt)) }
 {
     write_all(console, style.greeting)?;
-    write_prompt(style, console)
+    write_all(console, style.number)?;
+    write_all(console, style.prompt)
 }
 
 /// Answers the lines as `run` does, and holds in `unfinished`, at first empty, what was read of the next line.

@@ -1,19 +1,19 @@
 //! What a line of a session asks for.
 
-ghost use Rattle.std.specs.Prelude.{◌≡◌, ◌↔◌, ℕ, Bool, Option, IfSome, IfNone, IsTrue};
-ghost use Rattle.cdb_setup.specs.Parts.{IsWithin};
+ghost use Rattle.std.specs.Prelude.{◌≡◌, ◌↔◌, option_map, IsTrue};
+ghost use Rattle.cdb_text.specs.Grammar.{words_of};
+ghost use Rattle.cdb_text.specs.Words.{words_left};
 ghost use Rattle.cdb_session.specs.declared.request.Request.{Request as RequestName};
-ghost use Rattle.cdb_session.specs.declared.topic.Topic.{Topic as TopicName};
-ghost use Rattle.cdb_session.specs.Requests.{AsksFor, help_line, quit_line, seat_line};
-ghost use Rattle.cdb_session.specs.Requests.{most_seats, watch_line};
+ghost use Rattle.cdb_session.specs.Requests.{AsksFor};
+ghost use Rattle.cdb_session.specs.RequestWords.{alone, help_in, only_in, own_in, seat_named};
 ghost use Rattle.cdb_session.specs.News.{watches};
 ghost use Rattle.cdb_session.specs.Parts.{seat_next};
 
-use crate::inquiry::{Inquiry, inquiry_of, repeat_of};
+use crate::inquiry::{Inquiry, drawing_of, step_of};
 use crate::topic::Topic;
 use cdb_base::limits::MAX_BYTES;
 use cdb_control::Command;
-use cdb_text::{LineFault, parse_line};
+use cdb_text::{LineFault, first_word, number_of, parse_line};
 use std::marker::Model;
 
 /// A line that is no command, and its first fault.
@@ -34,7 +34,7 @@ impl<'a> Model for FaultyLine<'a> {
 /// What a line asks for.
 #[derive(Drop)]
 pub enum Request<'a> {
-    /// The command, by the seat that the session is at, so many times, from 1 to 999,999, or until it is refused.
+    /// The command, by the seat that the session is at, this many times, from 1 to 999,999, or until it is refused.
     Call(Command, u32),
     /// The answer to this, of the run as it stands.
     Ask(Inquiry<'a>),
@@ -80,62 +80,78 @@ impl Request<'_> {
     }
 }
 
-/// How many bytes a line has that chooses a seat.
-const SEAT_LINE: usize = 6;
+/// The greatest seat that a line chooses.
+const MOST_SEATS: u32 = 9;
 
-/// The seat that a line chooses.
-fn seat_of(line: &[u8]) -> Option<u8>
-    ensures some { IfSome result
-        (λ seat. IsWithin 1 most_seats seat × (line.now ≡ seat_line seat)) }
-    ensures none { IfNone result
-        ((seat : ℕ) → IsWithin 1 most_seats seat → ¬ (line.now ≡ seat_line seat)) }
+/// The word that is left, where it is the only one.
+#[tactic(auto, using(crate::proofs::OneRequest::first_of))]
+fn only_word(words: Option<&[u8]>) -> Option<&[u8]>
+    ensures { option_map (λ it. it.now) result ≡ only_in (words_left words.entry) }
 {
-    if line.len() != SEAT_LINE {
-        return None;
-    }
-    let (word, digit) = (&line[..SEAT_LINE - 1], line[SEAT_LINE - 1]);
-    if word == b"seat ".as_slice() && b'1' <= digit && digit <= b'9' {
-        Some(digit - b'0')
-    } else {
-        None
+    match first_word(words?) {
+        (word, None) => Some(word),
+        (_, Some(_)) => None,
     }
 }
 
-/// Whether a line begins to watch, or ends it.
-fn watch_of(line: &[u8]) -> Option<bool>
-    ensures some { IfSome result (λ begins. line.now ≡ watch_line begins) }
-    ensures none { IfNone result ((begins : Bool) → ¬ (line.now ≡ watch_line begins)) }
+/// The seat that a word names.
+fn seat_of(word: &[u8]) -> Option<u8>
+    ensures { result ≡ seat_named word.now }
 {
-    if line == b"watch".as_slice() {
-        return Some(true);
-    }
-    if line == b"unwatch".as_slice() {
-        return Some(false);
-    }
-    None
-}
-
-/// How many bytes stand before the word that the help is asked about.
-const HELP_LINE: usize = 5;
-
-/// What the help is asked about.
-fn help_of(line: &[u8]) -> Option<Option<Topic>>
-    ensures some { IfSome result (λ about. line.now ≡ help_line about) }
-    ensures none { IfNone result ((about : Option TopicName) → ¬ (line.now ≡ help_line about)) }
-{
-    if line == b"help".as_slice() {
-        return Some(None);
-    }
-    if line.len() < HELP_LINE || &line[..HELP_LINE] != b"help ".as_slice() {
+    let seat = number_of(word)?;
+    if seat > MOST_SEATS {
         return None;
     }
-    match Topic::of(&line[HELP_LINE..]) {
-        Some(topic) => Some(Some(topic)),
-        None => None,
+    Some(seat as u8)
+}
+
+/// What a first word asks for where no other follows it.
+#[tactic(auto, using(crate::proofs::OneRequest::first_of))]
+fn alone<'a>(words: Option<&[u8]>, request: Request<'a>) -> Option<Request<'a>>
+    ensures { result ≡ alone request.entry (words_left words.entry) }
+{
+    match words {
+        None => Some(request),
+        Some(_) => None,
+    }
+}
+
+/// What the words behind `help` ask for.
+#[tactic(auto, using(crate::proofs::OneRequest::first_of))]
+fn help_of(words: Option<&[u8]>) -> Option<Request<'_>>
+    ensures { result ≡ help_in (words_left words.entry) }
+{
+    match words {
+        None => Some(Request::Help(None)),
+        Some(_) => Some(Request::Help(Some(Topic::of(only_word(words)?)?))),
+    }
+}
+
+/// What a line asks for that a session takes beside commands.
+#[tactic(auto, unfolding(crate::specs::RequestWords::own_in))]
+fn own_of(line: &[u8]) -> Option<Request<'_>>
+    ensures { result ≡ own_in (words_of line.now) }
+{
+    let (word, words) = first_word(line);
+    match Topic::of(word)? {
+        Topic::Auto => {
+            let step = step_of(words)?;
+            Some(Request::Call(Command::Auto(step.p), step.k?))
+        }
+        Topic::Explain => Some(Request::Ask(Inquiry::Explain(step_of(words)?))),
+        Topic::Trail => Some(Request::Ask(Inquiry::Trail(step_of(words)?))),
+        Topic::Draw => Some(Request::Ask(drawing_of(words)?)),
+        Topic::Watch => alone(words, Request::Watch(true)),
+        Topic::Unwatch => alone(words, Request::Watch(false)),
+        Topic::Help => help_of(words),
+        Topic::Quit => alone(words, Request::Quit),
+        Topic::Seat => Some(Request::Seat(seat_of(only_word(words)?)?)),
+        _ => None,
     }
 }
 
 /// What a line asks for that stands for itself, without the byte 10 at its end. It allocates nothing.
+#[tactic(auto, using(crate::proofs::OneRequest::one_request))]
 pub fn request_of(line: &[u8]) -> Request<'_>
     ensures asks { AsksFor result line.now }
     ensures only { (other : RequestName) → AsksFor other line.now → other ≡ result }
@@ -143,23 +159,8 @@ pub fn request_of(line: &[u8]) -> Request<'_>
     if line.len() > MAX_BYTES {
         return Request::TooLong;
     }
-    if let Some(about) = help_of(line) {
-        return Request::Help(about);
-    }
-    if line == b"quit".as_slice() {
-        return Request::Quit;
-    }
-    if let Some(begins) = watch_of(line) {
-        return Request::Watch(begins);
-    }
-    if let Some(seat) = seat_of(line) {
-        return Request::Seat(seat);
-    }
-    if let Some(inquiry) = inquiry_of(line) {
-        return Request::Ask(inquiry);
-    }
-    if let Some((p, times)) = repeat_of(line) {
-        return Request::Call(Command::Auto(p), times);
+    if let Some(request) = own_of(line) {
+        return request;
     }
     match parse_line(line) {
         Ok(command) => Request::Call(command, 1),

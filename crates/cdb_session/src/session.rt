@@ -4,7 +4,7 @@ ghost use Rattle.std.specs.Prelude.{◌≡◌, ◌-◌, ◌<◌, ◌^◌, ◌++�
 ghost use Rattle.cdb_commands.specs.ReplyView.{is_refused, reply_view};
 ghost use Rattle.cdb_text.specs.Pushes.{Pushes};
 ghost use Rattle.cdb_text.specs.Texts.{text_of};
-ghost use Rattle.cdb_session.specs.Dialogues.{full_text, help_response, own_response, prompt_after};
+ghost use Rattle.cdb_session.specs.Dialogues.{full_text, own_response, prompt_after};
 ghost use Rattle.cdb_control.specs.Journal.{entry};
 ghost use Rattle.cdb_session.specs.Exchanges.{Effect};
 ghost use Rattle.cdb_session.specs.Lines.{GivesOnce, IsAround, PutsOut, Shows, seen_by};
@@ -24,7 +24,6 @@ use crate::topic::Topic;
 use cdb_base::NoMemory;
 use cdb_control::{CallFault, Command, Reply};
 use cdb_text::reply_text;
-use itoa::Buffer;
 use std::alloc::{AllocError, Global};
 
 /// Where a session is between two lines: the seat of the next one, how many lines there were, and from which entry of
@@ -88,6 +87,7 @@ impl<C: Caller> Session<C> {
 }
 
 /// Gives a command once, and adds the text of the reply. Returns whether it was refused, or the journal is full.
+#[tactic(auto, using(crate::proofs::GotReplies::none_called))]
 fn call<C: Caller>(
     alloc: Global,
     caller: &mut C,
@@ -134,7 +134,7 @@ fn call_times<'a, C: Caller>(
 }
 
 /// Does what a line asks for, and returns what is put out then. After an error the session is not to go on.
-#[tactic(auto, using(crate::proofs::CallChain::calls_in_order))]
+#[tactic(auto, using(crate::proofs::CallChain::calls_in_order, crate::proofs::LineResponse::nothing_begun))]
 fn respond<'a, C: Caller>(
     alloc: Global,
     caller: &mut C,
@@ -218,27 +218,14 @@ fn push_response(
     match request {
         Request::Seat(seat) if style.chooses => push_seat(text, *seat),
         Request::Seat(_) => push_no_command(text, line, Topic::Seat.word()),
-        Request::Help(about) => push_help_response(alloc, text, style, line, *about),
+        Request::Help(about) => match *about {
+            None => push_help(text, style.chooses),
+            Some(topic) => push_about(alloc, text, style.chooses, line, topic),
+        },
         Request::Quit | Request::Call(_, _) | Request::Ask(_) => Ok(()),
         Request::Watch(begins) => push_watch(text, *begins),
         Request::Fault(faulty) => push_faulty(alloc, text, line, style.chooses, faulty),
         Request::TooLong => push_too_long(text, line),
-    }
-}
-
-/// The response to a line of this number that asks for the help.
-fn push_help_response(
-    alloc: Global,
-    text: &mut String,
-    style: &Style<'_>,
-    line: u64,
-    about: Option<Topic>,
-) -> Result<(), AllocError>
-    ensures { Pushes result text.old text.new (help_response line style.now.chooses about) }
-{
-    match about {
-        None => push_help(text, style.chooses),
-        Some(topic) => push_about(alloc, text, style.chooses, line, topic),
     }
 }
 
@@ -254,10 +241,7 @@ fn push_prompt(
     match request {
         Request::Quit => Ok(()),
         _ => {
-            if style.numbered {
-                let mut buffer = Buffer::new();
-                text.extend_from_slice(buffer.format(style.first).as_bytes())?;
-            }
+            text.extend_from_slice(style.number)?;
             text.extend_from_slice(style.prompt)
         }
     }

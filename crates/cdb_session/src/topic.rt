@@ -3,6 +3,8 @@
 ghost use Rattle.std.specs.Prelude.{◌≡◌};
 ghost use Rattle.cdb_session.specs.Topics.{topic_word, topic_of};
 
+use self::Topic::*;
+
 /// A word that may begin a line.
 #[derive(Clone, Copy, PartialEq, Eq)]
 pub enum Topic {
@@ -57,27 +59,8 @@ pub(crate) const FIRST: [&[u8]; 21] = [
 impl Topic {
     /// Each of them.
     const ALL: [Topic; 21] = [
-        Topic::Step,
-        Topic::Auto,
-        Topic::Lose,
-        Topic::Undo,
-        Topic::Redo,
-        Topic::Forget,
-        Topic::Rollback,
-        Topic::Why,
-        Topic::Break,
-        Topic::Unbreak,
-        Topic::Resume,
-        Topic::Show,
-        Topic::Decisions,
-        Topic::Explain,
-        Topic::Trail,
-        Topic::Draw,
-        Topic::Watch,
-        Topic::Unwatch,
-        Topic::Help,
-        Topic::Quit,
-        Topic::Seat,
+        Step, Auto, Lose, Undo, Redo, Forget, Rollback, Why, Break, Unbreak, Resume, Show,
+        Decisions, Explain, Trail, Draw, Watch, Unwatch, Help, Quit, Seat,
     ];
 
     /// The bytes of the word.

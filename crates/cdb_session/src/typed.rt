@@ -61,6 +61,7 @@ fn first_piece(line: &[u8]) -> (&[u8], Option<&[u8]>)
 }
 
 /// What stands before the first mark of a piece, and what stands after it, if it has a mark.
+#[tactic(auto, using(std::proofs::lemmas::List::take_rest, std::proofs::lemmas::List::Sums::position_or_len_is))]
 fn halves(piece: &[u8]) -> Option<(&[u8], &[u8])>
     ensures none { IfNone result (is_name piece.now ≡ false) }
     ensures one { IfSome result (λ it. it.0.now ≡ before_first is_mark piece.now) }

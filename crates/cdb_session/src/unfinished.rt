@@ -12,6 +12,7 @@ const MOST: usize = MAX_BYTES + 1;
 
 /// Holds more of the line, as much of it as shows that it is too long: a line of at most 1,048,576 bytes whole, and one
 /// byte more of a longer one. After out of memory what was kept is kept.
+#[tactic(auto, using(crate::proofs::CutLines::fill))]
 pub fn hold(unfinished: &mut Vec<u8>, bytes: &[u8]) -> Result<(), AllocError>
     requires { length unfinished.old.items ≤ longest + 1 }
     ensures { OnOk result

@@ -1,5 +1,5 @@
 -- What the final journal has of all seats.
-use Rattle.std.proofs.Common.{◌≡◌, ℕ, ◌+◌, ◌<◌, ◌≤◌, Bool, List, All, length, get_or, false, refl, sym, ap, ◌∙◌, subst, arith}
+use Rattle.std.proofs.Common.{◌≡◌, ℕ, ◌++◌, ◌+◌, ◌<◌, ◌≤◌, List, All, length, get_or, false, refl, sym, ap, ◌∙◌, subst, arith}
 use Rattle.std.specs.Prelude.{Result, Option, Some, None, option_map, Vec, vec_len}
 use Rattle.std.specs.Global.{Global}
 use Rattle.std.proofs.lemmas.List.FromFn.{length-map-range_with_len, get_or-map-range_with_len}
@@ -21,8 +21,8 @@ use Rattle.cdb_shared_session.specs.Openings.{SeatSeen}
 use Rattle.cdb_shared_session.specs.SharedSessions.{HasEnded, IsFinished, AreSessions}
 use Rattle.cdb_session.specs.Greetings.{greeting_at, greeting_text}
 use Rattle.cdb_session.specs.Served.{IsSession}
-use Rattle.cdb_session.specs.Styles.{StyleView, prompt_at}
-use Rattle.cdb_shared_session.specs.SeatParts.{is_numbered, part_in, seat_style}
+use Rattle.cdb_session.specs.Styles.{StyleView}
+use Rattle.cdb_shared_session.specs.SeatParts.{number_at, part_in, seat_style}
 use Rattle.cdb_shared_session.specs.declared.seat.Welcome.{Welcome}
 use Rattle.cdb_shared_session.specs.Promises.{AreDealt, IsUnused, HasServed, HasRun, HaveLeft}
 use Rattle.cdb_shared_session.specs.declared.endpoint.Finished.{Finished}
@@ -45,11 +45,11 @@ all_ready new greets counts same some k d low =
     rw (new.each k d (omega (arith, new.many))) (record { rests = (refl, refl); greeting = greets; seats = counts; setup = same; some = some })
 
 -- the style that a seat is welcomed in, by its setup at the end
-pub same_style : (prompt greeting shown : List ℕ) (seats first : ℕ) (numbered : Bool) (before after : SeatView) → IsLater before after
-    → greeting ≡ greeting_text before.setup → seats ≡ before.seats → shown ≡ greeting_at prompt greeting → numbered ≡ is_numbered seats prompt
-    → first ≡ before.number → let given : StyleView = record { greeting = shown; prompt = prompt_at numbered first prompt; first = first; chooses = false } in
+pub same_style : (prompt greeting shown number : List ℕ) (seats first : ℕ) (before after : SeatView) → IsLater before after
+    → greeting ≡ greeting_text before.setup → seats ≡ before.seats → shown ≡ greeting_at prompt greeting → number ≡ number_at seats first prompt
+    → first ≡ before.number → let given : StyleView = record { greeting = shown; prompt = number ++ prompt; first = first; chooses = false } in
     given ≡ seat_style prompt after.setup after.seats before.number
-same_style prompt greeting shown seats first numbered before after later greets counts shows numbers is =
+same_style prompt greeting shown number seats first before after later greets counts shows numbers is =
     rw (later.setup, later.seats, shows, greets, numbers, counts, is) refl
 
 -- what a seat's thread has done, by the final journal

@@ -39,7 +39,7 @@ parts xs ys zs a b n is low some high = cut (take n zs) a b low ∙ ap (λ l. dr
 none_between : (xs : List Entry) (a : ℕ) → drop a (take a xs) ≡ []
 none_between xs a = grind (arith, common_steps, gets)
 
--- what is behind the first so many, as a slice
+-- what is behind the first entries, as a slice
 pub behind : (xs : List Entry) (n : ℕ) → take (length xs - n) (drop n xs) ≡ drop n xs
 behind xs n = grind (arith, common_steps, gets)
 

@@ -30,7 +30,7 @@ module _ {J : Type 0} (stream : J → Stream) where
   HasKept (Some old) (Some kept) journal = IsKept kept.outcome old kept.file journal
   HasKept file kept journal = ⊥
 
-  -- Behind so many of the entries that were seen it took those up to another number; or the writing failed
+  -- Of the entries that were seen it took those from the one position up to another; or the writing failed
   abbrev pub Keeps : J → J → ℕ → Result ℕ Failed → List Entry → Type 0
   Keeps old new from (Ok to) seen =
       (from ≤ to) × (to ≤ length seen) × Takes stream old new (journal_text (drop from (take to seen)))

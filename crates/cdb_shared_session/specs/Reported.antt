@@ -52,8 +52,8 @@ pub record RunsSessions {P T J O E : Type 0} (rules : Parts → Rules)
       (failures_text written (kept_outcome ended.1) (outcomes finished))
   pub status_is : ended.0 ≡ status_of written (kept_outcome ended.1) (outcomes finished)
 
--- The setup's first fault, else that of the journal for so many seats; or memory or a thread is not there. A setup that
--- is too long is told so, and no thread is started for one with a fault.
+-- The setup's first fault, else that of the journal for this many seats; or memory or a thread is not there. A setup
+-- that is too long is told so, and no thread is started for one with a fault.
 abbrev pub IsFaultOfSessions : List ℕ → List ℕ → ℕ → RaceFault → Type 0
 IsFaultOfSessions json from seats (fault.Play why) = IsFaultOfBeginning json from seats why
 IsFaultOfSessions json from seats (fault.Spawn refused) = IsSetup json

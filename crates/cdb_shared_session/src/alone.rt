@@ -100,8 +100,8 @@ fn hold_kept<R: Runs, A: Answers<R>, T: Console, J: Sink + Drop>(
 {
     let style = Style {
         greeting: greeting_at(greeting, prompt),
+        number: &[],
         prompt,
-        numbered: false,
         first: 1,
         chooses: true,
     };

@@ -86,6 +86,7 @@ pub(crate) fn keep_new<R: Runs, J: Sink, Rt: Wait>(
 ///
 /// # Errors
 /// `Failed` where the file can't be written; it has a beginning of what was seen.
+#[tactic(auto, using(crate::proofs::KeptEntries::keeps_then))]
 fn keep_on<R: Runs, J: Sink, Rt: Wait + Clock>(
     shared: &Shared<R>,
     rt: &Rt,
@@ -113,6 +114,7 @@ fn keep_on<R: Runs, J: Sink, Rt: Wait + Clock>(
 }
 
 /// Keeps the journal in the file, if there is one, until none of the seats is going on.
+#[tactic(auto, using(crate::proofs::KeptEntries::keeps_on))]
 pub(crate) fn keep<R: Runs, J: Sink + Drop, Rt: Wait + Clock>(
     shared: &Shared<R>,
     rt: &Rt,
@@ -144,6 +146,7 @@ pub(crate) fn keep<R: Runs, J: Sink + Drop, Rt: Wait + Clock>(
 }
 
 /// Adds what the file lacks of the journal.
+#[tactic(auto, using(crate::proofs::KeptEntries::behind, crate::proofs::KeptEntries::kept_rest))]
 pub(crate) fn keep_rest<J: Sink + Drop>(
     alloc: Global,
     journal: &[Entry],

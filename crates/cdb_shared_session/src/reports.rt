@@ -147,6 +147,7 @@ pub fn write_failures<T, W: Sink>(
 }
 
 /// The status of the least seat whose session failed, 3, 6 or 7, and 0 where none did.
+#[tactic(auto, using(crate::proofs::FailureLines::well, crate::proofs::FailureLines::failed))]
 fn status_of_seats<T>(finished: &[Finished<T>]) -> u8
     ensures { result ≡ seats_status (outcomes finished.now) }
 {

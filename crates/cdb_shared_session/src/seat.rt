@@ -1,10 +1,10 @@
 //! What one thread does with its seat.
 
-ghost use Rattle.std.specs.Prelude.{◌≡◌, ◌≤◌, false};
+ghost use Rattle.std.specs.Prelude.{◌≡◌, ◌≤◌, ℕ, decimal, false};
 ghost use Rattle.cdb_base.specs.Limits.{MAX_SEATS};
 ghost use Rattle.cdb_shared.specs.Seats.{IsLater, RestsAt};
 ghost use Rattle.cdb_shared_session.specs.Promises.{IsUnused, RunsSeat, HasRun};
-ghost use Rattle.cdb_shared_session.specs.SeatParts.{is_numbered};
+ghost use Rattle.cdb_shared_session.specs.SeatParts.{number_at};
 
 use crate::endpoint::{Endpoint, Finished, Opener};
 use crate::replica::{news_for, replica_of};
@@ -16,6 +16,7 @@ use cdb_session::{Answers, Caller, Console, Inquiry, News, Style, answer_of, gre
 use cdb_setup::Setup;
 use cdb_shared::{Seat, Shared};
 use cdb_streams::PlayFault;
+use itoa::Buffer;
 use std::alloc::Global;
 use std::marker::{Model, PhantomData};
 use std::snapshot::Snapshot;
@@ -61,11 +62,12 @@ impl<'a, R: Runs, A: Answers<R>, Rt: Wait> Caller for SeatCaller<'a, R, A, Rt> {
 
     ghost later = { IsLater };
 
+    #[tactic(auto, using(crate::proofs::SeatCalls::calls_made))]
     fn call(&mut self, alloc: Global, _seat: u8, command: Command) -> Result<Reply, CallFault> {
         self.shared.call(self.rt, alloc, &mut self.seat, command)
     }
 
-    #[tactic(auto, using(crate::proofs::Replicas::has_later))]
+    #[tactic(auto, using(crate::proofs::Replicas::has_later, crate::proofs::SeatCalls::asked_now))]
     fn ask(
         &mut self,
         alloc: Global,
@@ -121,6 +123,7 @@ impl<R: Runs, A: Answers<R>, P: Opener> Promise<SeatResult<R, P::Seat>> for Seat
 }
 
 /// A seat's session in a style by which no line chooses a seat, from its first line to its last. Hands the seat back.
+#[tactic(auto, using(crate::proofs::SeatCalls::later_seat))]
 fn run_styled<R: Runs, A: Answers<R>, T: Console, Rt: Wait>(
     shared: &Shared<R>,
     rt: &Rt,
@@ -157,11 +160,15 @@ fn run_styled<R: Runs, A: Answers<R>, T: Console, Rt: Wait>(
     (seat, outcome)
 }
 
-/// Whether the prompt of a seat has its number.
-fn is_numbered(seats: u8, prompt: &[u8]) -> bool
-    ensures { result ≡ is_numbered seats prompt.now }
+/// What stands before the prompt of a seat with this number.
+fn number_at<'a>(seats: u8, digits: &'a [u8], prompt: &[u8]) -> &'a [u8]
+    ensures { (seat : ℕ) → digits.now ≡ decimal seat → result.now ≡ number_at seats seat prompt.now }
 {
-    seats > 1 && !prompt.is_empty()
+    if seats > 1 && !prompt.is_empty() {
+        digits
+    } else {
+        &[]
+    }
 }
 
 /// A seat's session, once its streams are open; where they can't be opened, there is none.
@@ -189,11 +196,14 @@ pub(crate) fn run_seat<R: Runs, A: Answers<R>, P: Opener, Rt: Wait>(
             return SeatResult { seat, finished };
         }
     };
+    let first = seat.number();
+    let mut digits = Buffer::new();
+    let number = digits.format(first).as_bytes();
     let style = Style {
         greeting: greeting_at(welcome.greeting, prompt),
+        number: number_at(welcome.seats, number, prompt),
         prompt,
-        numbered: is_numbered(welcome.seats, prompt),
-        first: seat.number(),
+        first,
         chooses: false,
     };
     let (seat, outcome) = run_styled::<R, A, _, Rt>(

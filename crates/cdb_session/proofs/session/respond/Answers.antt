@@ -1,29 +1,14 @@
 use Rattle.std.proofs.Common.{rules}
-use Rattle.std.proofs.lemmas.Result.{err_from_is_err_and}
 use Rattle.cdb_base.specs.declared.no_memory.NoMemory.{NoMemory}
 use Rattle.cdb_session.specs.Answers.{answer_seen}
-use Rattle.cdb_session.proofs.GotReplies.{MakesNone-refl}
-use Rattle.cdb_session.proofs.LineResponse.{ask_shows, nothing_begun, own_shows}
+use Rattle.cdb_session.proofs.LineResponse.{ask_shows, own_shows}
 use Rattle.cdb_session.proofs.session.respond.Goals as goal
-
-pub returns-in_err-answer-in-Ask-clause-responds : goal.returns-in_err-answer-in-Ask-clause-responds
-returns-in_err-answer-in-Ask-clause-responds g c =
-    let p = err_from_is_err_and c.from_residual.result c.from_residual.ensures.1 in
-    let part = g.C.Caller.part in
-    λ effect. rw p.1 (nothing_begun c.args.place.seat (part c.args.caller.now) (part c.ask.new.self) c.args.request.now c.ask.ensures.ask)
 
 pub returns-in_ok-answer-in-Ask-clause-responds : goal.returns-in_ok-answer-in-Ask-clause-responds
 returns-in_ok-answer-in-Ask-clause-responds g c =
     let part = g.C.Caller.part in
     λ effect. rw c.in-Ask.is (ask_shows g.C.Caller.answers c.args.style.now effect c.args.place c.answered.result (part c.args.caller.now)
     (part c.ask.new.self) c.in-Ask.inquiry (answer_seen c.in_ok-answer-in-Ask.answer) c.ask.ensures.ask c.in_ok-answer-in-Ask.ensures.answer c.answered.ensures)
-
-pub returns-in_err-push_response-in_default-clause-responds : goal.returns-in_err-push_response-in_default-clause-responds
-returns-in_err-push_response-in_default-clause-responds g c =
-    let residual = c.from_residual-in_err-push_response-in_default in
-    let p = err_from_is_err_and residual.result residual.ensures.1 in
-    let part = g.C.Caller.part c.args.caller.now in
-    λ effect. rw p.1 (nothing_begun c.args.place.seat part part c.args.request.now (MakesNone-refl part))
 
 pub returns-in_ok-push_response-in_default-clause-responds : goal.returns-in_ok-push_response-in_default-clause-responds
 returns-in_ok-push_response-in_default-clause-responds g c =

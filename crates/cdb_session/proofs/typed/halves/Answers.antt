@@ -1,7 +1,4 @@
-use Rattle.std.proofs.Common.{◌≡◌, position, refl, sym, ◌∙◌, rules, tests}
-use Rattle.std.specs.List.{position_or_len}
-use Rattle.std.proofs.lemmas.List.{take_rest}
-use Rattle.std.proofs.lemmas.List.Sums.{position_or_len_is}
+use Rattle.std.proofs.Common.{◌≡◌, position, sym, ◌∙◌, rules, tests}
 use Rattle.std.proofs.lemmas.Iterator.{YieldsList-from_slice}
 use Rattle.std.proofs.lemmas.Iterator.Search.{position_from_yields_List}
 use Rattle.cdb_session.specs.Typed.{is_mark}
@@ -14,11 +11,3 @@ returns-in-None-clause-none c =
     let found : c.position.result ≡ position is_mark piece =
     position_from_yields_List is_mark _ _ c.position.result c.position.ensures.ran (YieldsList-from_slice piece cc) (λ x b q k. search (rules, tests)) in
     no_name piece (position_none is_mark piece (sym found ∙ c.in-None.is))
-
-pub returns-in-Some-clause-one : goal.returns-in-Some-clause-one
-returns-in-Some-clause-one c =
-    let at : position_or_len is_mark c.args.piece.now ≡ c.in-Some.at = search (rules, tests, position_or_len_is) in rw at refl
-
-pub returns-in-Some-clause-other : goal.returns-in-Some-clause-other
-returns-in-Some-clause-other c =
-    let at : position_or_len is_mark c.args.piece.now ≡ c.in-Some.at = search (rules, tests, position_or_len_is) in rw (at, take_rest) refl
