@@ -1,4 +1,4 @@
-pub mod Shown
+pub mod Keepings
 pub mod OpenedFiles
 pub mod Seen
 pub mod WrittenTexts

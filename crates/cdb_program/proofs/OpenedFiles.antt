@@ -1,19 +1,18 @@
 -- Files are opened one after the other.
-use Rattle.std.proofs.Common.{◌≡◌, ℕ, ◌+◌, ◌<◌, List, [], ◌∷◌, ◌++◌, length, get_or, take, drop, Option, Some, None, Result, Ok}
-use Rattle.std.proofs.Common.{Err, Bor, Vec, Global, refl, sym, ap, subst, ◌∙◌, append_assoc, append-nil, take-append-drop}
+use Rattle.std.proofs.Common.{◌≡◌, ℕ, ◌+◌, ◌<◌, List, [], ◌∷◌, ◌++◌, length, get_or, take, drop, Option, Some, None}
+use Rattle.std.proofs.Common.{Bor, Vec, Global, refl, sym, ap, subst, ◌∙◌, append_assoc, append-nil, take-append-drop}
 use Rattle.std.specs.Prelude.{option_map}
 use Rattle.std.proofs.lemmas.List.{map-append, take_more}
 use Rattle.std.specs.List.{AllZip}
 use Rattle.cdb_streams.specs.Faults.{of_reading}
 use Rattle.cdb_play.specs.Races.{bytes_of}
+use Rattle.cdb_streams.specs.declared.fault.PlayFault.{PlayFault}
 use Rattle.cdb_streams.specs.declared.fault.PlayFault.TheVariants as play
 use Rattle.cdb_streams.specs.declared.source.ReadFault.{ReadFault}
 use Rattle.cdb_streams.specs.declared.source.ReadFault.TheVariants as reading
-use Rattle.cdb_base.specs.Requests.{texts}
-use Rattle.cdb_program.specs.Beginnings.{ReadsBeginning}
-use Rattle.cdb_program.specs.Known.{FilesSeen, after_opening, after_failing}
+use Rattle.cdb_base.specs.Requests.{any_text, texts}
+use Rattle.cdb_program.specs.Known.{FilesSeen, after_opening, after_failing, any_name}
 use Rattle.cdb_program.specs.FilesRead.{AreFirstBytes, FailsToOpen, FailsToRead, HasRead, most_read}
-use Rattle.cdb_program.specs.Replays.{ReadsBoth}
 use Rattle.cdb_program.specs.declared.fault.Fault.{Fault}
 use Rattle.cdb_program.specs.declared.fault.Fault.TheVariants.{Play}
 
@@ -55,6 +54,14 @@ pub fails_one : (old new : FilesSeen) (name : Bor (List ℕ)) (fault : ReadFault
 fails_one old new name reading.Failed failed = ([], [], refl, failed)
 fails_one old new name (reading.NoMemory refused) same = ([], name.now ∷ [], refl, same ∙ sym (opened_none old))
 
+-- nor where it may be left out
+pub fails_any : (old new : FilesSeen) (name : Option (Bor (List ℕ))) (given : Bor (List ℕ)) (fault : ReadFault) (why : PlayFault)
+    → name ≡ Some given → why ≡ of_reading fault → FailsToOpen old new given.now fault
+    → FailsToRead old new (any_name (any_text name)) (Play why given)
+fails_any old new name given fault why is so failed =
+    rw so (subst (λ (n : Option (Bor (List ℕ))). FailsToRead old new (any_name (any_text n)) (Play (of_reading fault) given)) (sym is)
+    (fails_one old new given fault failed))
+
 -- ---- files after others
 
 pub AllZip-append : {A B : Type 0} (R : A → B → Type 0) (first second : List A) (a b : List B) → AllZip R first a → AllZip R second b
@@ -93,12 +100,6 @@ fails_before old new names after (Play play.Read name) (good, rest, whole, faile
 fails_before old new names after (Play (play.NoMemory refused) name) (good, rest, whole, opened) =
     (good, rest ++ after, rw (whole, append_assoc good rest after) refl, opened)
 fails_before old new names after other fails = absurd fails
-
--- the file of a setup and that of a journal, from which sessions go on
-pub both_begin : (old new : FilesSeen) (setup journal : List ℕ) (read : Result (Vec ℕ Global × Vec ℕ Global) Fault)
-    → ReadsBoth old new setup journal read → ReadsBeginning old new setup (Some journal) read
-both_begin old new setup journal (Ok read) (opened, json, bytes) = (opened, (json, bytes))
-both_begin old new setup journal (Err fault) both = both
 
 -- ---- names in a list
 

@@ -6,9 +6,11 @@ use Rattle.cdb_base.specs.Requests.{RequestView, Frames, Text, asked_for, texts}
 use Rattle.cdb_base.specs.declared.request.Request.{Request}
 use Rattle.cdb_base.specs.declared.request.Request.TheVariants as request
 use Rattle.cdb_streams.specs.Streams.{Stream}
+use Rattle.cdb_program.specs.Beginnings.{Named}
 use Rattle.cdb_program.specs.Known.{Seen}
 use Rattle.cdb_program.specs.Outcomes.{RequestEnd}
-use Rattle.cdb_program.specs.Requests.{DebugsHere, Does, IsDone, IsNoSession, PerformsAsked, PerformsSeats, PerformsSessions}
+use Rattle.cdb_program.specs.Requests.{Does, IsDone, IsNoSession, PerformsAsked, PerformsSessions}
+use Rattle.cdb_program.specs.Sessions.{DebugsHere, PerformsSeats}
 
 pub does_but_error : (asked : RequestView) (old new : Seen) (error : Stream) (outcome : RequestEnd) → Does asked old new outcome
     → Does asked old (record new { error = error }) outcome
@@ -30,19 +32,13 @@ done_alone it other = record { no_session = tt; performs = λ prompt old new sta
 
 -- ---- sessions
 
-pub debugs_but_error : (setup prompt : Text) (from journal page : Option Text) (old new : Seen) (error : Stream) (outcome : RequestEnd)
-    → DebugsHere setup from journal page prompt old new outcome → DebugsHere setup from journal page prompt old (record new { error = error }) outcome
-debugs_but_error setup prompt from None None old new error outcome does = does
-debugs_but_error setup prompt from (Some journal) None old new error outcome does = does
-debugs_but_error setup prompt from journal (Some page) old new error outcome does = does
-
-module _ (setup prompt : Text) (from journal page : Option Text) (old new : Seen) (status : ℕ) where
-  pub done_here : (seats : List (Bor Text)) → length seats ≡ 0 → IsDone (DebugsHere setup from journal page prompt) old new status
-      → PerformsSessions setup (texts seats) from journal page prompt old new status
+module _ (it : Named) (prompt : Text) (old new : Seen) (status : ℕ) where
+  pub done_here : (seats : List (Bor Text)) → length seats ≡ 0 → IsDone (DebugsHere it prompt) old new status
+      → PerformsSessions it prompt (texts seats) old new status
   done_here [] none done = done
   done_here (seat ∷ seats) none done = absurd (omega arith)
 
-  pub done_at_seats : (seats : List (Bor Text)) → length seats ≢ 0 → PerformsSeats setup (texts seats) from journal page old new status
-      → PerformsSessions setup (texts seats) from journal page prompt old new status
+  pub done_at_seats : (seats : List (Bor Text)) → length seats ≢ 0 → PerformsSeats it (texts seats) old new status
+      → PerformsSessions it prompt (texts seats) old new status
   done_at_seats [] some done = absurd (some refl)
   done_at_seats (seat ∷ seats) some done = done

@@ -17,19 +17,19 @@ use Rattle.cdb_shared_session.specs.Reports.{outcomes, failures_text, status_of}
 use Rattle.cdb_shared_session.specs.declared.endpoint.Finished.{Finished}
 use Rattle.cdb_shared_session.specs.declared.keeping.Kept.{Kept}
 use Rattle.cdb_shared_session.proofs.Ended.{ended_by}
-use Rattle.cdb_shared_session.proofs.KeptEntries.{kept_seen, outcome_seen, seen_kept}
-use Rattle.cdb_streams.specs.declared.buffer.OutputFault.{OutputFault}
 use Rattle.cdb_rules.specs.Rules.{Rules}
 use Rattle.cdb_setup.specs.Parts.{Parts}
 use Rattle.cdb_streams.specs.declared.fault.PlayFault.{PlayFault}
 use Rattle.cdb_streams.specs.declared.fault.PlayFault.TheVariants as play
-use Rattle.cdb_base.specs.Requests.{texts}
-use Rattle.cdb_program.specs.Known.{FilesSeen, after_opening, any_name}
+use Rattle.cdb_base.specs.Requests.{Text, texts}
+use Rattle.cdb_program.specs.Beginnings.{Named, made_names, read_names}
+use Rattle.cdb_program.specs.Known.{FilesSeen, after_opening}
 use Rattle.cdb_program.specs.FilesRead.{FailsToRead}
 use Rattle.cdb_program.specs.declared.fault.Fault.{Fault}
 use Rattle.cdb_program.specs.declared.fault.Fault.TheVariants.{Play}
 use Rattle.cdb_streams.specs.declared.source.ReadFault.{ReadFault}
-use Rattle.cdb_program.specs.SeatStreams.{AreOpenersOf, CanOpenSeat, IsFaultOfSeats, IsOpenerOf}
+use Rattle.cdb_program.specs.SeatStreams.{AreOpenersOf, CanOpenSeat, IsOpenerOf}
+use Rattle.cdb_program.specs.Sessions.{IsFaultOfSeats}
 use Rattle.cdb_streams.specs.Endings.{whole_ending}
 use Rattle.cdb_streams.specs.Streams.{Stream, Writes}
 use Rattle.cdb_streams.specs.declared.sink.Failed.{Failed}
@@ -39,19 +39,18 @@ use Rattle.cdb_program.proofs.OpenedFiles.{AllZip-append, fails_before, fails_la
 -- ---- seats that are found
 
 -- Why there are no sessions: the setup or the journal can't be read, or a seat is refused, or a file.
-module _ (setup : List ℕ) (seats : List (List ℕ)) (from : Option (List ℕ)) (files : List (List ℕ)) (old new : FilesSeen) where
-  as_fault : (fault : Fault) → FailsToRead old new (setup ∷ (any_name from ++ (seats ++ files))) fault
-      → IsFaultOfSeats setup seats from files old new fault
+module _ (it : Named) (seats : List Text) (old new : FilesSeen) where
+  as_fault : (fault : Fault) → FailsToRead old new (read_names it ++ (seats ++ made_names it)) fault → IsFaultOfSeats it seats old new fault
   as_fault (Play play.Read name) fails = fails
   as_fault (Play (play.NoMemory refused) name) fails = fails
   as_fault other fails = absurd fails
 
-  pub none_begun : (fault : Fault) → FailsToRead old new (setup ∷ any_name from) fault → IsFaultOfSeats setup seats from files old new fault
-  none_begun fault fails = as_fault fault (fails_before old new (setup ∷ any_name from) (seats ++ files) fault fails)
+  pub none_begun : (fault : Fault) → FailsToRead old new (read_names it) fault → IsFaultOfSeats it seats old new fault
+  none_begun fault fails = as_fault fault (fails_before old new (read_names it) (seats ++ made_names it) fault fails)
 
-  pub none_after : (begun : FilesSeen) (fault : Fault) → begun ≡ after_opening old (setup ∷ any_name from)
-      → FailsToRead begun new (seats ++ files) fault → IsFaultOfSeats setup seats from files old new fault
-  none_after begun fault opened fails = as_fault fault (fails_later old begun new (setup ∷ any_name from) (seats ++ files) fault opened fails)
+  pub none_after : (begun : FilesSeen) (fault : Fault) → begun ≡ after_opening old (read_names it)
+      → FailsToRead begun new (seats ++ made_names it) fault → IsFaultOfSeats it seats old new fault
+  none_after begun fault opened fails = as_fault fault (fails_later old begun new (read_names it) (seats ++ made_names it) fault opened fails)
 
 module _ {P : Type 0} (opens : P → Result SeatSeen ReadFault → Type 0) where
   -- the opener of one more is that of its name
@@ -99,14 +98,14 @@ module _ {T : Type 0} (known : T → Known) where
 -- sessions that took place, by what is known of their seats, of what each read and wrote, and of the streams
 module _ {P T J O E : Type 0} (rules : Parts → Rules) (Answers : RunView → Inquiry → Answer → Type 0) (known : T → Known)
     (opens : P → Result SeatSeen ReadFault → Type 0) (file_stream : J → Stream) (output_stream : O → Stream) (error_stream : E → Stream) where
-  pub holds_seen : (files : FilesSeen) (names : List (List ℕ)) (json from : List ℕ) (openers : List P)
-      (file : Option J) (output output_after : O) (error error_after : E) (ended : ℕ × Option (Kept J))
-      → AreOpenersOf opens files names openers
+  pub holds_seen : {json from : List ℕ} {openers : List P} {file : Option J} {output output_after : O} {error error_after : E}
+      {ended : ℕ × Option (Kept J)} (files : FilesSeen) (names : List Text) → AreOpenersOf opens files names openers
       → RunsSessions rules Answers known opens file_stream output_stream error_stream json from openers file output output_after error error_after ended
       → RunsSessions rules Answers (λ (k : Known). k) (CanOpenSeat files) file_stream (λ (s : Stream). s)
       (λ (s : Stream). s) json from names file (output_stream output) (output_stream output_after) (error_stream error)
       (error_stream error_after) ended
-  holds_seen files names json from openers file output output_after error error_after ended are h =
+  holds_seen {from = from} {openers = openers} {output = output} {output_after = output_after} {error = error} {error_after = error_after}
+      {ended = ended} files names are h =
       let same = same_outcomes known h.finished in
       let many = sym (AllZip-long (IsOpenerOf opens files) names openers are) in
       record {
@@ -146,30 +145,4 @@ module _ {P T J O E : Type 0} (rules : Parts → Rules) (Answers : RunView → I
             (error_stream error_after) (failures_text h.written (kept_outcome ended.1) x)) (sym same)
             (stream_writes error_stream (Unit {0}) Failed h.reported error error_after _ h.lines);
         status_is = h.status_is ∙ (λ i. status_of h.written (kept_outcome ended.1) (sym same i));
-      }
-
-  -- the file of the journal by what is known of it
-  pub file_seen : (json from : List ℕ) (openers : List P) (file : Option J) (output output_after : O) (error error_after : E) (ended : ℕ × Option (Kept J))
-      → RunsSessions rules Answers known opens file_stream output_stream error_stream json from openers file output output_after error error_after ended
-      → RunsSessions rules Answers known opens (λ (s : Stream). s) output_stream error_stream json from openers
-      (option_map file_stream file) output output_after error error_after (ended.0, option_map (seen_kept file_stream) ended.1)
-  file_seen json from openers file output output_after error error_after ended h =
-      let same = sym (outcome_seen file_stream ended.1) in
-      record {
-        setup = h.setup;
-        encodes = h.encodes;
-        begun = h.begun;
-        goes_on = h.goes_on;
-        control = h.control;
-        finished = h.finished;
-        writable = h.writable;
-        sessions = h.sessions;
-        keeps = kept_seen file_stream file ended.1 _ h.keeps;
-        written = h.written;
-        journal = h.journal;
-        reported = h.reported;
-        lines =
-            subst (λ (x : Result (Unit {0}) OutputFault).
-            Writes error_stream h.reported error error_after (failures_text h.written x (outcomes h.finished))) same h.lines;
-        status_is = h.status_is ∙ (λ i. status_of h.written (same i) (outcomes h.finished));
       }

@@ -1,17 +1,8 @@
 -- What is known of readers and writers, as streams.
-use Rattle.std.proofs.Common.{◌≡◌, ℕ, List, Result, Ok, Err, ap, subst, inl, inr}
+use Rattle.std.proofs.Common.{◌≡◌, ℕ, List, Result, Ok, Err, ap, inl, inr}
 use Rattle.std.specs.Prelude.{IfErr}
-use Rattle.cdb_rules.specs.Rules.{Rules}
-use Rattle.cdb_setup.specs.Parts.{Parts}
-use Rattle.cdb_session.specs.Moves.{Known}
-use Rattle.cdb_rules.specs.RunView.{RunView}
-use Rattle.cdb_session.specs.Exchanges.{Answer}
-use Rattle.cdb_session.specs.declared.inquiry.Inquiry.{Inquiry}
-use Rattle.cdb_shared_session.specs.KeptAlone.{DebugsKept}
-use Rattle.cdb_shared_session.specs.declared.keeping.Kept.{Kept}
-use Rattle.cdb_shared_session.proofs.KeptEntries.{seen_kept, seen_is}
 use Rattle.cdb_streams.specs.Endings.{Ending, Complete, WriterFailed, CutShort, NotBegun}
-use Rattle.cdb_streams.specs.Streams.{FailsWhere, Stream, Writes, itself}
+use Rattle.cdb_streams.specs.Streams.{FailsWhere, Stream, Writes}
 use Rattle.cdb_streams.specs.Written.{IsWritten}
 use Rattle.cdb_streams.specs.declared.fault.PlayFault.{PlayFault}
 use Rattle.cdb_streams.specs.declared.fault.PlayFault.TheVariants as play
@@ -45,39 +36,3 @@ text_seen reader writer of_play ended ending IsText IsFault script rest old new 
   unread = λ why is. ap reader (same why is);
   read = read;
 }
-
--- what is known of a session whose journal was kept
-debugged_seen : {J : Type 0} (stream : J → Stream) (rules_of : Parts → Rules) (Answers : RunView → Inquiry → Answer → Type 0)
-    (prompt json from : List ℕ) (old new : Known) (file : J) (ended : Result (Unit {0}) PlayFault × Kept J)
-    → DebugsKept stream rules_of Answers prompt json from old new file ended
-    → DebugsKept itself rules_of Answers prompt json from old new (stream file) (ended.0, seen_kept stream ended.1)
-debugged_seen stream rules_of Answers prompt json from old new file (Err fault, kept) (inl (is, makes, same)) = inl (is, makes, ap (seen_kept stream) same)
-debugged_seen stream rules_of Answers prompt json from old new file (Ok done, kept) (inl not) = absurd not
-debugged_seen stream rules_of Answers prompt json from old new file (returned, kept) (inr (setup, begun, encodes, opened, (made, makes, holds))) =
-    inr (
-      setup,
-      begun,
-      encodes,
-      opened,
-      (
-        made,
-        makes,
-        record {
-          control = holds.control;
-          setup_is = holds.setup_is;
-          seats_are = holds.seats_are;
-          begins = holds.begins;
-          session = holds.session;
-          keeps = seen_is stream kept.outcome file kept.file (holds.control).journal holds.keeps;
-        },
-      ),
-    )
-
--- so of texts that are equal to these
-pub debugged_of : {J : Type 0} (stream : J → Stream) (rules_of : Parts → Rules) (Answers : RunView → Inquiry → Answer → Type 0)
-    (texts others : List ℕ × List ℕ × List ℕ) → others ≡ texts → (old new : Known) (file : J) (ended : Result (Unit {0}) PlayFault × Kept J)
-    → DebugsKept stream rules_of Answers others.0 others.1 others.2 old new file ended
-    → DebugsKept itself rules_of Answers texts.0 texts.1 texts.2 old new (stream file) (ended.0, seen_kept stream ended.1)
-debugged_of stream rules_of Answers texts others same old new file ended d =
-    debugged_seen stream rules_of Answers texts.0 texts.1 texts.2 old new file ended
-    (subst (λ (all : List ℕ × List ℕ × List ℕ). DebugsKept stream rules_of Answers all.0 all.1 all.2 old new file ended) same d)

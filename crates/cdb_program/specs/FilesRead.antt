@@ -25,10 +25,10 @@ abbrev pub FailsToOpen : FilesSeen → FilesSeen → List ℕ → ReadFault → 
 FailsToOpen old new name reading.Failed = new ≡ after_failing old (name ∷ [])
 FailsToOpen old new name (reading.NoMemory refused) = new ≡ old
 
--- one file is read, by how that ended
-abbrev pub ReadsFile : FilesSeen → FilesSeen → List ℕ → ℕ → Result (Vec ℕ Global) ReadFault → Type 0
-ReadsFile old new name most (Ok bytes) = (new ≡ after_opening old (name ∷ [])) × AreFirstBytes old most name bytes.items
-ReadsFile old new name most (Err fault) = FailsToOpen old new name fault
+-- or it was opened, and this holds of what that gave
+abbrev pub Opens : {A : Type 0} → (A → Type 0) → FilesSeen → FilesSeen → List ℕ → Result A ReadFault → Type 0
+Opens Is old new name (Ok it) = (new ≡ after_opening old (name ∷ [])) × Is it
+Opens Is old new name (Err fault) = FailsToOpen old new name fault
 
 -- these files were read, one after the other and no others, and gave these bytes
 abbrev pub HasRead : FilesSeen → FilesSeen → List (List ℕ) → List (List ℕ) → Type 0
@@ -42,6 +42,11 @@ FailsToRead old new names (Play Read name) =
 FailsToRead old new names (Play (NoMemory refused) name) =
     (good rest : List (List ℕ)) × (names ≡ good ++ rest) × (new ≡ after_opening old good)
 FailsToRead old new names other = ⊥
+
+-- or all were opened, in this order, and this holds of what that gave
+abbrev pub OpensAll : {A : Type 0} → (A → Type 0) → FilesSeen → FilesSeen → List (List ℕ) → Result A Fault → Type 0
+OpensAll Is old new names (Ok it) = (new ≡ after_opening old names) × Is it
+OpensAll Is old new names (Err fault) = FailsToRead old new names fault
 
 -- the bytes of one file, of two, of three, and of many
 abbrev pub single : Vec ℕ Global → List (List ℕ)
@@ -58,8 +63,7 @@ many contents = bytes_of contents.items
 
 -- files of these names were read and gave these bytes, or one could not be
 abbrev pub Reads : {A : Type 0} → (A → List (List ℕ)) → FilesSeen → FilesSeen → List (List ℕ) → Result A Fault → Type 0
-Reads given old new names (Ok read) = HasRead old new names (given read)
-Reads given old new names (Err fault) = FailsToRead old new names fault
+Reads given old new names = OpensAll (λ read. AllZip (AreFirstBytes old most_read) names (given read)) old new names
 
 -- files of these names could not all be read, and so nothing was written
 abbrev pub CannotReadFiles : List (List ℕ) → Seen → Seen → RequestEnd → Type 0

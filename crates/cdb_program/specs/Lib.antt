@@ -10,12 +10,12 @@ pub mod Plays
 pub mod Races
 pub mod Questions
 pub mod FrameFiles
+pub mod Beginnings
 pub mod Replays
 pub mod Searches
 pub mod Comparisons
 pub mod Answers
-pub mod Beginnings
-pub mod DebugSessions
 pub mod SeatStreams
-pub mod LivePages
+pub mod Keepings
+pub mod Sessions
 pub mod Requests

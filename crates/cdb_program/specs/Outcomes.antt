@@ -5,7 +5,7 @@ use Rattle.cdb_streams.specs.declared.buffer.OutputFault.{OutputFault}
 use Rattle.cdb_streams.specs.declared.fault.PlayFault.{PlayFault}
 use Rattle.cdb_streams.specs.declared.fault.RaceFault.{RaceFault}
 use Rattle.cdb_program.specs.declared.fault.Fault.{Fault}
-use Rattle.cdb_program.specs.declared.fault.Fault.TheVariants.{Play, Race, Answer, Journal, Different}
+use Rattle.cdb_program.specs.declared.fault.Fault.TheVariants.{Play, Race, Answer, Journal, Page, Different}
 
 -- how a request ended
 abbrev pub RequestEnd : Type 0
@@ -17,12 +17,17 @@ IsOfPlay name (Ok done) (Ok its_done) = Unit {0}
 IsOfPlay name (Err fault) (Err (Play its_fault its_name)) = (its_fault ≡ fault) × (its_name.now ≡ name)
 IsOfPlay name played outcome = ⊥
 
--- it ended as the session did, and else as the keeping of its journal
-abbrev pub IsOfKept : Result (Unit {0}) PlayFault → Result (Unit {0}) OutputFault → RequestEnd → Type 0
-IsOfKept (Err fault) kept outcome = IsOfPlay (codes "standard input") (Err fault) outcome
-IsOfKept (Ok done) (Ok kept) (Ok its_done) = Unit {0}
-IsOfKept (Ok done) (Err fault) (Err (Journal its_fault)) = its_fault ≡ fault
-IsOfKept debugged kept outcome = ⊥
+-- it ended as the last writing of the page did
+abbrev pub IsOfPage : Result (Unit {0}) AnswerFault → RequestEnd → Type 0
+IsOfPage (Ok done) outcome = outcome ≡ Ok tt
+IsOfPage (Err fault) outcome = outcome ≡ Err (Page fault)
+
+-- it ended as the session did, and else as the keeping of its journal, and else as the page
+abbrev pub IsOfSession : Result (Unit {0}) PlayFault → Result (Unit {0}) OutputFault
+    → Result (Unit {0}) AnswerFault → RequestEnd → Type 0
+IsOfSession (Err fault) kept shown outcome = IsOfPlay (codes "standard input") (Err fault) outcome
+IsOfSession (Ok done) (Err fault) shown outcome = outcome ≡ Err (Journal fault)
+IsOfSession (Ok done) (Ok kept) shown outcome = IsOfPage shown outcome
 
 -- it ended as the race did
 abbrev pub IsOfRace : Result (Unit {0}) RaceFault → RequestEnd → Type 0

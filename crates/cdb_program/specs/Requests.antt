@@ -9,11 +9,10 @@ use Rattle.cdb_agreement.specs.Algorithms.{rules}
 use Rattle.cdb_agreement.specs.SameState.{ReachSameState}
 use Rattle.cdb_control.specs.Headline.{Headline}
 use Rattle.cdb_control.specs.Laws.{ForJournals}
+use Rattle.cdb_program.specs.Beginnings.{Named}
 use Rattle.cdb_program.specs.Comparisons.{ComparesFiles}
-use Rattle.cdb_program.specs.DebugSessions.{DebugsFile, DebugsFileKept}
 use Rattle.cdb_program.specs.FrameFiles.{FramesFiles}
 use Rattle.cdb_program.specs.Known.{HasNoSession, Seen}
-use Rattle.cdb_program.specs.LivePages.{DebugsFilePaged, PerformsPaged}
 use Rattle.cdb_program.specs.Outcomes.{RequestEnd}
 use Rattle.cdb_program.specs.Plays.{PlaysInput, PlaysFiles}
 use Rattle.cdb_program.specs.Questions.{AsksFiles}
@@ -21,7 +20,7 @@ use Rattle.cdb_program.specs.Races.{RacesFiles}
 use Rattle.cdb_program.specs.Replays.{ReplaysFiles}
 use Rattle.cdb_program.specs.Reports.{IsReported}
 use Rattle.cdb_program.specs.Searches.{SearchesFile, ShrinksFiles}
-use Rattle.cdb_program.specs.SeatStreams.{PerformsShared}
+use Rattle.cdb_program.specs.Sessions.{DebugsHere, PerformsSeats}
 use Rattle.cdb_program.specs.declared.fault.Fault.{Fault}
 use Rattle.cdb_program.specs.declared.fault.Fault.TheVariants as fault
 use Rattle.cdb_program.specs.declared.request.Action.{Action}
@@ -84,42 +83,22 @@ PrintsText text old new outcome = ReadsNothing old new × Prints text old.output
 abbrev pub RefusesFor : Fault → Seen → Seen → RequestEnd → Type 0
 RefusesFor fault old new outcome = ReadsNothing old new × (new.output ≡ old.output) × (outcome ≡ Err fault)
 
--- a session here, with this prompt, which goes on from a journal and whose journal is kept in a file, where these are
--- named
-abbrev pub DebugsAlone : Text → Option Text → Option Text → Text → Seen → Seen → RequestEnd → Type 0
-DebugsAlone setup from None prompt old new outcome = DebugsFile setup from prompt old new outcome
-DebugsAlone setup from (Some journal) prompt old new outcome = DebugsFileKept setup from journal prompt old new outcome
-
--- the same, with a page of its run in a file, where one is named
-abbrev pub DebugsHere : Text → Option Text → Option Text → Option Text → Text → Seen → Seen → RequestEnd → Type 0
-DebugsHere setup from journal None prompt old new outcome = DebugsAlone setup from journal prompt old new outcome
-DebugsHere setup from journal (Some page) prompt old new outcome =
-    DebugsFilePaged setup from journal page prompt old new outcome
-
 -- this was done, and how it ended was reported
 abbrev pub IsDone : (Seen → Seen → RequestEnd → Type 0) → Seen → Seen → ℕ → Type 0
 IsDone DoesIt old new status =
     (outcome : RequestEnd) × DoesIt old new outcome × IsReported outcome old.error new.error status
 
--- sessions of several seats, with a page of their run in a file, where one is named
-abbrev pub PerformsSeats : Text → List Text → Option Text → Option Text → Option Text → Seen → Seen → ℕ → Type 0
-PerformsSeats setup seats from journal None old new status = PerformsShared setup seats from journal old new status
-PerformsSeats setup seats from journal (Some page) old new status =
-    PerformsPaged setup seats from journal page old new status
-
--- sessions of these seats, or one here without seats
-abbrev pub PerformsSessions : Text → List Text → Option Text
-    → Option Text → Option Text → Text → Seen → Seen → ℕ → Type 0
-PerformsSessions setup [] from journal page prompt old new status =
-    IsDone (DebugsHere setup from journal page prompt) old new status
-PerformsSessions setup (seat ∷ seats) from journal page prompt old new status =
-    PerformsSeats setup (seat ∷ seats) from journal page old new status
+-- sessions of these seats, or one here without seats, with this prompt
+abbrev pub PerformsSessions : Named → Text → List Text → Seen → Seen → ℕ → Type 0
+PerformsSessions it prompt [] old new status = IsDone (DebugsHere it prompt) old new status
+PerformsSessions it prompt (seat ∷ seats) old new status = PerformsSeats it (seat ∷ seats) old new status
 
 -- what was asked for was done, a session here with this prompt, and how it ended was reported; nothing was saved where
 -- none was asked for
 abbrev pub PerformsAsked : Text → RequestView → Seen → Seen → ℕ → Type 0
 PerformsAsked prompt (Debug setup seats from journal page) old new status =
-    PerformsSessions setup seats from journal page prompt old new status
+    let it : Named = record { setup = setup; from = from; journal = journal; page = page } in
+    PerformsSessions it prompt seats old new status
 PerformsAsked prompt asked old new status = IsDone (Does asked) old new status × (new.saved ≡ old.saved)
 
 -- what an action performs has turns

@@ -1,68 +1,70 @@
-//! Sessions on files and standard input.
+//! A session on standard input and standard output.
 
 ghost use Rattle.std.specs.Prelude.{◌≡◌};
-ghost use Rattle.cdb_base.specs.Requests.{any_text};
-ghost use Rattle.cdb_program.specs.DebugSessions.{DebugsFile, DebugsFileKept};
+ghost use Rattle.cdb_program.specs.Beginnings.{named};
+ghost use Rattle.cdb_program.specs.Sessions.{DebugsHere, DebugsIn};
 
 use crate::answers::Printed;
-use crate::beginning::read_beginning;
-use crate::fault::{Fault, of_kept, of_play};
+use crate::beginning::{Names, read_beginning};
+use crate::fault::{Fault, of_session};
 use crate::files::Files;
-use crate::seats::make_one;
+use crate::keeping::{Keeping, keep, outcome_of, shown_in};
 use crate::world::World;
 use cdb_any_run::AnyRun;
-use cdb_session::debug;
-use cdb_shared_session::debug_kept;
-use cdb_streams::{Sink, Source};
+use cdb_page::Rewritten;
+use cdb_session::{Console, debug};
+use cdb_shared_session::{Kept, debug_kept};
+use cdb_streams::{PlayFault, Sink, Source};
 use std::alloc::Global;
 
-/// Holds a session on a run of a setup file over standard input and standard output, with this prompt before each line.
-/// It goes on from the journal of the other name, if there is one.
-pub fn debug_file<'a, F: Files + Drop, I: Source + Drop, O: Sink + Drop, E: Sink + Drop>(
+/// Holds a session on a run of the setup of this text, which goes on from a journal, with this prompt before each line;
+/// and what its journal was kept in, where it was to be.
+fn hold<'a, T: Console, J: Sink + Drop, P: Rewritten + Drop>(
     alloc: Global,
-    setup: &'a str,
-    from: Option<&'a str>,
-    prompt: &str,
-    world: &mut World<F, I, O, E>,
-) -> Result<(), Fault<'a>>
-    ensures does { DebugsFile setup.entry.now (any_text from.entry) prompt.now world.old world.new result }
-    ensures error { world.new.error ≡ world.old.error }
+    json: &[u8],
+    from: &[u8],
+    prompt: &[u8],
+    console: &mut T,
+    keeping: Option<Keeping<'a, J, P>>,
+) -> (Result<(), PlayFault>, Option<Kept<Keeping<'a, J, P>>>)
+    ensures { DebugsIn prompt.now json.now from.now keeping.entry (T.known console.old) (T.known console.new)
+        result.0 result.1 }
 {
-    let (json, journal) = read_beginning(alloc, &mut world.files, setup, from)?;
-    let prompt = prompt.as_bytes();
-    let debugged = debug::<AnyRun, Printed, _>(
-        alloc,
-        json.as_slice(),
-        journal.as_slice(),
-        prompt,
-        &mut world.streams,
-    );
-    of_play(debugged, "standard input")
+    match keeping {
+        Some(keeping) => {
+            let (debugged, kept) = debug_kept::<AnyRun, Printed, _, _>(
+                alloc, json, from, prompt, console, keeping,
+            );
+            (debugged, Some(kept))
+        }
+        None => (
+            debug::<AnyRun, Printed, _>(alloc, json, from, prompt, console),
+            None,
+        ),
+    }
 }
 
-/// The same, and the journal is kept in the file of this name, in which nothing may be yet.
-pub fn debug_file_kept<'a, F: Files + Drop, I: Source + Drop, O: Sink + Drop, E: Sink + Drop>(
+/// Holds a session on a run of a setup file over standard input and standard output, with this prompt before each line.
+/// It goes on from a journal, and keeps its own in a file and a page of its run in another, where these are named.
+pub fn debug_here<'a, F: Files + Drop, I: Source + Drop, O: Sink + Drop, E: Sink + Drop>(
     alloc: Global,
-    setup: &'a str,
-    from: Option<&'a str>,
-    file: &'a str,
+    names: Names<'a>,
     prompt: &str,
     world: &mut World<F, I, O, E>,
 ) -> Result<(), Fault<'a>>
-    ensures does { DebugsFileKept setup.entry.now (any_text from.entry) file.entry.now prompt.now
-        world.old world.new result }
+    ensures does { DebugsHere (named names.entry) prompt.now world.old world.new result }
     ensures error { world.new.error ≡ world.old.error }
 {
-    let (json, journal) = read_beginning(alloc, &mut world.files, setup, from)?;
-    let file = make_one(alloc, &mut world.files, file)?;
-    let prompt = prompt.as_bytes();
-    let (debugged, kept) = debug_kept::<AnyRun, Printed, _, _>(
+    let (json, from) = read_beginning(alloc, &mut world.files, names.setup, names.from)?;
+    let (json, from) = (json.as_slice(), from.as_slice());
+    let keeping = keep(alloc, &mut world.files, names, json, from)?;
+    let (debugged, kept) = hold(
         alloc,
-        json.as_slice(),
-        journal.as_slice(),
-        prompt,
+        json,
+        from,
+        prompt.as_bytes(),
         &mut world.streams,
-        file,
+        keeping,
     );
-    of_kept(debugged, kept.outcome)
+    of_session(debugged, outcome_of(&kept), shown_in(names.page, &kept))
 }

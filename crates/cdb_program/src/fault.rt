@@ -1,6 +1,6 @@
 //! Why a request was not carried out to its end.
 
-ghost use Rattle.cdb_program.specs.Outcomes.{IsOfAnswer, IsOfKept, IsOfPlay, IsOfRace, IsOfSame};
+ghost use Rattle.cdb_program.specs.Outcomes.{IsOfAnswer, IsOfPage, IsOfPlay, IsOfRace, IsOfSame, IsOfSession};
 
 use cdb_explain::AnswerFault;
 use cdb_streams::{OutputFault, PlayFault, RaceFault};
@@ -73,17 +73,28 @@ pub fn of_play<'a>(played: Result<(), PlayFault>, name: &'a str) -> Result<(), F
     }
 }
 
-/// How a request ended that was a session, whose journal was kept so.
-pub fn of_kept<'a>(
+/// How a request ended whose last page was written so.
+pub fn of_page<'a>(shown: Result<(), AnswerFault>) -> Result<(), Fault<'a>>
+    ensures { IsOfPage shown result }
+{
+    match shown {
+        Ok(()) => Ok(()),
+        Err(fault) => Err(Fault::Page(fault)),
+    }
+}
+
+/// How a request ended that was a session, whose journal was kept so, and whose last page was written so.
+pub fn of_session<'a>(
     debugged: Result<(), PlayFault>,
     kept: Result<(), OutputFault>,
+    shown: Result<(), AnswerFault>,
 ) -> Result<(), Fault<'a>>
-    ensures { IsOfKept debugged kept result }
+    ensures { IsOfSession debugged kept shown result }
 {
     match (debugged, kept) {
         (Err(fault), _) => Err(Fault::Play(fault, "standard input")),
         (Ok(()), Err(fault)) => Err(Fault::Journal(fault)),
-        (Ok(()), Ok(())) => Ok(()),
+        (Ok(()), Ok(())) => of_page(shown),
     }
 }
 

@@ -4,9 +4,9 @@ ghost use Rattle.std.specs.Prelude.{[], ◌∷◌};
 ghost use Rattle.cdb_base.specs.Requests.{texts};
 ghost use Rattle.cdb_program.specs.FrameFiles.{TakesFolder, WritesWhole};
 ghost use Rattle.cdb_program.specs.Known.{FilesSeen};
-ghost use Rattle.cdb_program.specs.LivePages.{MakesPage};
-ghost use Rattle.cdb_program.specs.FilesRead.{both, many, single, three, Reads, ReadsFile};
-ghost use Rattle.cdb_program.specs.SeatStreams.{FindsSeat, MakesFile};
+ghost use Rattle.cdb_program.specs.Keepings.{HasHadNone, IsEmpty};
+ghost use Rattle.cdb_program.specs.FilesRead.{both, many, single, three, AreFirstBytes, Opens, Reads};
+ghost use Rattle.cdb_program.specs.SeatStreams.{IsOpenerOf};
 
 use crate::fault::Fault;
 use cdb_base::NoMemory;
@@ -44,7 +44,8 @@ pub trait Files {
     /// `Failed` where the file can't be opened or read, and `NoMemory` where an allocation fails, which counts as if
     /// the file had not been opened.
     fn read(&mut self, alloc: Global, name: &str, most: usize) -> Result<Vec<u8>, ReadFault>
-        ensures { ReadsFile (seen self.old) (seen self.new) name.now most result };
+        ensures { Opens (λ bytes. AreFirstBytes (seen self.old) most name.now bytes.items)
+            (seen self.old) (seen self.new) name.now result };
 
     /// Finds the seat of this name: a terminal device, or `IN:OUT`, a pair of files or pipes. Its streams are not
     /// opened yet, and so it doesn't wait.
@@ -53,7 +54,8 @@ pub trait Files {
     /// `Failed` where what it would write has something in it, and `NoMemory` where an allocation fails, which counts
     /// as if it had not been opened.
     fn find_seat(&mut self, alloc: Global, name: &str) -> Result<Self::Seat, ReadFault>
-        ensures { FindsSeat Self.Seat.opens (seen self.old) (seen self.new) name.now result };
+        ensures { Opens (IsOpenerOf Self.Seat.opens (seen self.old) name.now)
+            (seen self.old) (seen self.new) name.now result };
 
     /// Makes the file of this name, or opens it where it is there and empty.
     ///
@@ -61,14 +63,15 @@ pub trait Files {
     /// `Failed` where it has something in it or can't be opened, and `NoMemory` where an allocation fails, which counts
     /// as if it had not been opened.
     fn make_file(&mut self, alloc: Global, name: &str) -> Result<Self::Made, ReadFault>
-        ensures { MakesFile Self.Made.stream (seen self.old) (seen self.new) name.now result };
+        ensures { Opens (λ file. IsEmpty (Self.Made.stream file)) (seen self.old) (seen self.new) name.now result };
 
     /// Makes the file of this name for a page, or takes it where it is there and empty.
     ///
     /// # Errors
     /// As of `make_file`.
     fn make_page(&mut self, alloc: Global, name: &str) -> Result<Self::Page, ReadFault>
-        ensures { MakesPage Self.Page.versions (seen self.old) (seen self.new) name.now result };
+        ensures { Opens (λ file. HasHadNone (Self.Page.versions file))
+            (seen self.old) (seen self.new) name.now result };
 
     /// Takes the folder of this name to write to, which is made where it is not there.
     ///

@@ -8,7 +8,7 @@ mod debugs;
 mod fault;
 mod files;
 mod frames;
-mod live_pages;
+mod keeping;
 mod made;
 mod plays;
 mod questions;

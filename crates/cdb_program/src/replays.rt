@@ -1,53 +1,16 @@
 //! Replays of files.
 
 ghost use Rattle.std.specs.Prelude.{◌≡◌};
-ghost use Rattle.cdb_program.specs.Replays.{ReadsBoth, ReadsJournal, ReplaysFiles};
+ghost use Rattle.cdb_program.specs.Replays.{ReplaysFiles};
 
+use crate::beginning::read_beginning;
 use crate::fault::{Fault, of_play};
-use crate::files::{Files, read_file};
+use crate::files::Files;
 use crate::world::World;
 use cdb_any_run::AnyRun;
-use cdb_journal::{MOST_JOURNAL, replay};
-use cdb_streams::{HeldBytes, PlayFault, Sink, Source};
+use cdb_journal::replay;
+use cdb_streams::{HeldBytes, Sink, Source};
 use std::alloc::Global;
-
-/// How many bytes of a file are read: one more than a journal may have, which shows that it is too long.
-const MOST_READ: usize = MOST_JOURNAL + 1;
-
-/// The bytes of the file of a journal.
-///
-/// # Errors
-/// `Play(Read, name)` where the file can't be read, and `Play(NoMemory, name)` where an allocation fails.
-fn read_journal<'a, F: Files>(
-    alloc: Global,
-    files: &mut F,
-    name: &'a str,
-) -> Result<Vec<u8>, Fault<'a>>
-    ensures { ReadsJournal (F.seen files.old) (F.seen files.new) name.entry.now result }
-{
-    match files.read(alloc, name, MOST_READ) {
-        Ok(bytes) => Ok(bytes),
-        Err(fault) => Err(Fault::Play(PlayFault::from(fault), name)),
-    }
-}
-
-/// The bytes of the file of a setup and then of that of a journal.
-///
-/// # Errors
-/// Those of `read_journal`, of the first file that can't be read; the one after it is not opened.
-pub(crate) fn read_both<'a, F: Files>(
-    alloc: Global,
-    files: &mut F,
-    setup: &'a str,
-    journal: &'a str,
-) -> Result<(Vec<u8>, Vec<u8>), Fault<'a>>
-    ensures { ReadsBoth (F.seen files.old) (F.seen files.new)
-        setup.entry.now journal.entry.now result }
-{
-    let json = read_file(alloc, files, setup)?;
-    let bytes = read_journal(alloc, files, journal)?;
-    Ok((json, bytes))
-}
 
 /// Plays a journal file again on a run of a setup file.
 pub fn replay_files<'a, F: Files + Drop, I: Source + Drop, O: Sink + Drop, E: Sink + Drop>(
@@ -60,7 +23,7 @@ pub fn replay_files<'a, F: Files + Drop, I: Source + Drop, O: Sink + Drop, E: Si
     ensures error { world.new.error ≡ world.old.error }
     ensures saved { world.new.saved ≡ world.old.saved }
 {
-    let (json, bytes) = read_both(alloc, &mut world.files, setup, journal)?;
+    let (json, bytes) = read_beginning(alloc, &mut world.files, setup, Some(journal))?;
     let mut entries = HeldBytes::new(alloc, bytes);
     let replayed = replay::<AnyRun, _, O>(
         alloc,

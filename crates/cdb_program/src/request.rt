@@ -1,24 +1,24 @@
 //! What the program does, and that it does it.
 
-ghost use Rattle.std.specs.Prelude.{◌≡◌, ◌≤◌, length};
-ghost use Rattle.cdb_base.specs.Requests.{any_text, asked_for, texts};
-ghost use Rattle.cdb_program.specs.Requests.{DebugsAlone, DebugsHere, Does, DrawsFrames, HasTurns, IsDone};
-ghost use Rattle.cdb_program.specs.Requests.{IsNoSession, HeadlineHolds, MayPerform, Performs, PerformsAsked};
-ghost use Rattle.cdb_program.specs.Requests.{PerformsSeats, PerformsSessions, PrintsText};
+ghost use Rattle.std.specs.Prelude.{◌≡◌};
+ghost use Rattle.cdb_base.specs.Requests.{asked_for, texts};
+ghost use Rattle.cdb_program.specs.Beginnings.{named};
+ghost use Rattle.cdb_program.specs.Requests.{Does, DrawsFrames, HasTurns, HeadlineHolds, IsDone, IsNoSession};
+ghost use Rattle.cdb_program.specs.Requests.{MayPerform, Performs, PerformsAsked, PerformsSessions, PrintsText};
 
+use crate::beginning::Names;
 use crate::compares::compare_files;
-use crate::debugs::{debug_file, debug_file_kept};
+use crate::debugs::debug_here;
 use crate::fault::Fault;
 use crate::files::Files;
 use crate::frames::frame_files;
-use crate::live_pages::{debug_file_paged, perform_paged};
 use crate::plays::{play_files, play_input};
 use crate::questions::answer_files;
 use crate::races::race_files;
 use crate::replays::replay_files;
 use crate::reports::report;
 use crate::searches::{search_file, shrink_files};
-use crate::seats::perform_shared;
+use crate::seats::share;
 use crate::world::World;
 use cdb_any_run::AnyRun;
 use cdb_base::{Request, StepAsked};
@@ -145,74 +145,6 @@ fn perform_one<
     report(outcome, &mut world.error)
 }
 
-/// Holds a session here, which goes on from the journal of the one name, if there is one, and keeps its journal in the
-/// file of the other name, if there is one.
-fn debug_alone<'a, F: Files + Drop, I: Source + Drop, O: Sink + Drop, E: Sink + Drop>(
-    alloc: Global,
-    setup: &'a str,
-    from: Option<&'a str>,
-    journal: Option<&'a str>,
-    prompt: &'a str,
-    world: &mut World<F, I, O, E>,
-) -> Result<(), Fault<'a>>
-    ensures does { DebugsAlone setup.entry.now (any_text from.entry) (any_text journal.entry) prompt.entry.now
-        world.old world.new result }
-    ensures error { world.new.error ≡ world.old.error }
-{
-    match journal {
-        Some(file) => debug_file_kept(alloc, setup, from, file, prompt, world),
-        None => debug_file(alloc, setup, from, prompt, world),
-    }
-}
-
-/// Holds a session as `debug_alone` does, with a page of its run in the file of the last name, if there is one.
-fn debug_here<'a, F: Files + Drop, I: Source + Drop, O: Sink + Drop, E: Sink + Drop>(
-    alloc: Global,
-    setup: &'a str,
-    from: Option<&'a str>,
-    journal: Option<&'a str>,
-    page: Option<&'a str>,
-    prompt: &'a str,
-    world: &mut World<F, I, O, E>,
-) -> Result<(), Fault<'a>>
-    ensures does { DebugsHere setup.entry.now (any_text from.entry) (any_text journal.entry) (any_text page.entry)
-        prompt.entry.now world.old world.new result }
-    ensures error { world.new.error ≡ world.old.error }
-{
-    match page {
-        Some(page) => debug_file_paged(alloc, setup, from, journal, page, prompt, world),
-        None => debug_alone(alloc, setup, from, journal, prompt, world),
-    }
-}
-
-/// Performs sessions of these seats, one at least, with a page of their run in a file, if one is named.
-fn perform_seats<
-    R: Threads + Wait + Clock + Sync,
-    F: Files + Drop,
-    I: Source + Drop,
-    O: Sink + Drop,
-    E: Sink + Drop,
->(
-    threads: &R,
-    alloc: Global,
-    setup: &str,
-    seats: &[&str],
-    from: Option<&str>,
-    journal: Option<&str>,
-    page: Option<&str>,
-    world: &mut World<F, I, O, E>,
-) -> u8
-    requires { 1 ≤ length seats.now }
-    ensures { PerformsSeats setup.now (texts seats.now)
-        (any_text from.entry) (any_text journal.entry) (any_text page.entry)
-        world.old world.new result }
-{
-    match page {
-        Some(page) => perform_paged(threads, alloc, setup, seats, from, journal, page, world),
-        None => perform_shared(threads, alloc, setup, seats, from, journal, world),
-    }
-}
-
 /// Holds sessions of these seats, or one here without seats, and reports on standard error what failed.
 fn perform_sessions<
     R: Threads + Wait + Clock + Sync,
@@ -223,22 +155,21 @@ fn perform_sessions<
 >(
     threads: &R,
     alloc: Global,
-    setup: &str,
+    names: Names<'_>,
     seats: &[&str],
-    from: Option<&str>,
-    journal: Option<&str>,
-    page: Option<&str>,
     prompt: &str,
     world: &mut World<F, I, O, E>,
 ) -> u8
-    ensures { PerformsSessions setup.now (texts seats.now) (any_text from.entry) (any_text journal.entry)
-        (any_text page.entry) prompt.now world.old world.new result }
+    ensures { PerformsSessions (named names.entry) prompt.now (texts seats.now) world.old world.new result }
 {
-    if !seats.is_empty() {
-        return perform_seats(threads, alloc, setup, seats, from, journal, page, world);
+    if seats.is_empty() {
+        let debugged = debug_here(alloc, names, prompt, world);
+        return report(debugged, &mut world.error);
     }
-    let debugged = debug_here(alloc, setup, from, journal, page, prompt, world);
-    report(debugged, &mut world.error)
+    match share(threads, alloc, names, seats, world) {
+        Ok(status) => status,
+        Err(fault) => report(Err(fault), &mut world.error),
+    }
 }
 
 /// Performs a request, in which a session here has this prompt, and reports on standard error how it ended.
@@ -265,17 +196,15 @@ fn perform_request<
             from,
             journal,
             page,
-        } => perform_sessions(
-            threads,
-            alloc,
-            setup,
-            seats.as_slice(),
-            *from,
-            *journal,
-            *page,
-            prompt,
-            world,
-        ),
+        } => {
+            let names = Names {
+                setup,
+                from: *from,
+                journal: *journal,
+                page: *page,
+            };
+            perform_sessions(threads, alloc, names, seats.as_slice(), prompt, world)
+        }
         _ => perform_one(threads, alloc, request, world),
     }
 }

@@ -1,16 +1,18 @@
 //! Sessions of several seats, on files and terminals.
 
-ghost use Rattle.std.specs.Prelude.{◌≡◌, ◌≤◌, ◌∷◌, [], length, option_map, vec_len, IfOk, IfErr};
-ghost use Rattle.cdb_program.specs.Known.{HasNoSession, after_opening, any_name};
-ghost use Rattle.cdb_program.specs.FilesRead.{FailsToRead};
-ghost use Rattle.cdb_base.specs.Requests.{any_text, texts};
-ghost use Rattle.cdb_program.specs.SeatStreams.{AreOpenersOf, HoldsSeats, IsEmpty, IsFaultOfSeats};
-ghost use Rattle.cdb_program.specs.SeatStreams.{IsNewFile, IsOpenerOf, PerformsShared};
+ghost use Rattle.std.specs.Prelude.{◌≡◌, ◌≤◌, ◌∷◌, [], length, vec_len, IfOk, IfErr};
+ghost use Rattle.cdb_base.specs.Requests.{texts};
+ghost use Rattle.cdb_program.specs.Beginnings.{named};
+ghost use Rattle.cdb_program.specs.FilesRead.{OpensAll};
+ghost use Rattle.cdb_program.specs.Known.{HasNoSession};
+ghost use Rattle.cdb_program.specs.SeatStreams.{AreOpenersOf, IsOpenerOf};
+ghost use Rattle.cdb_program.specs.Sessions.{HoldsNone, HoldsSeats, first_status};
 
 use crate::answers::Printed;
-use crate::beginning::read_beginning;
-use crate::fault::Fault;
+use crate::beginning::{Names, read_beginning};
+use crate::fault::{Fault, of_page};
 use crate::files::Files;
+use crate::keeping::{keep, shown_in};
 use crate::reports::report;
 use crate::world::World;
 use cdb_any_run::AnyRun;
@@ -28,11 +30,8 @@ use std::time::Clock;
 /// # Errors
 /// `Play(Read, name)` where it is refused, and `Play(NoMemory, name)` where an allocation fails.
 fn find_one<'a, F: Files>(alloc: Global, files: &mut F, name: &'a str) -> Result<F::Seat, Fault<'a>>
-    ensures opened { IfOk result
-        (λ _. F.seen files.new ≡ after_opening (F.seen files.old) (name.entry.now ∷ [])) }
-    ensures seat { IfOk result (IsOpenerOf F.Seat.opens (F.seen files.old) name.entry.now) }
-    ensures fault { IfErr result
-        (FailsToRead (F.seen files.old) (F.seen files.new) (name.entry.now ∷ [])) }
+    ensures { OpensAll (IsOpenerOf F.Seat.opens (F.seen files.old) name.entry.now)
+        (F.seen files.old) (F.seen files.new) (name.entry.now ∷ []) result }
 {
     match files.find_seat(alloc, name) {
         Ok(opener) => Ok(opener),
@@ -45,19 +44,15 @@ fn find_one<'a, F: Files>(alloc: Global, files: &mut F, name: &'a str) -> Result
 /// # Errors
 /// `Play(Read, name)` with the name of the first seat that is refused; those after it are not looked at.
 /// `Play(NoMemory, _)` where an allocation fails.
-pub(crate) fn find_each<'a, F: Files>(
+fn find_each<'a, F: Files>(
     alloc: Global,
     files: &mut F,
     names: &[&'a str],
 ) -> Result<Vec<F::Seat>, Fault<'a>>
-    ensures opened { IfOk result
-        (λ _. F.seen files.new ≡ after_opening (F.seen files.old) (texts names.now)) }
-    ensures seats { IfOk result
-        (λ openers. AreOpenersOf F.Seat.opens (F.seen files.old) (texts names.now)
-        openers.items) }
+    ensures found { OpensAll
+        (λ openers. AreOpenersOf F.Seat.opens (F.seen files.old) (texts names.now) openers.items)
+        (F.seen files.old) (F.seen files.new) (texts names.now) result }
     ensures count { IfOk result (λ openers. vec_len openers ≡ length names.now) }
-    ensures fault { IfErr result
-        (FailsToRead (F.seen files.old) (F.seen files.new) (texts names.now)) }
 {
     let mut openers = Vec::new(alloc);
     for name in names {
@@ -70,56 +65,17 @@ pub(crate) fn find_each<'a, F: Files>(
     Ok(openers)
 }
 
-/// The file of this name, in which there is nothing.
-///
-/// # Errors
-/// `Play(Read, name)` where it has something in it or can't be opened, and `Play(NoMemory, name)` where an allocation
-/// fails.
-pub(crate) fn make_one<'a, F: Files>(
-    alloc: Global,
-    files: &mut F,
-    name: &'a str,
-) -> Result<F::Made, Fault<'a>>
-    ensures opened { IfOk result
-        (λ _. F.seen files.new ≡ after_opening (F.seen files.old) (name.entry.now ∷ [])) }
-    ensures file { IfOk result (λ made. IsEmpty (F.Made.stream made)) }
-    ensures fault { IfErr result
-        (FailsToRead (F.seen files.old) (F.seen files.new) (name.entry.now ∷ [])) }
+/// The status of two that is told: the first, where it is not 0.
+fn first_status(first: u8, second: u8) -> u8
+    ensures { result ≡ first_status first second }
 {
-    match files.make_file(alloc, name) {
-        Ok(file) => Ok(file),
-        Err(fault) => Err(Fault::Play(PlayFault::from(fault), name)),
-    }
+    if first == 0 { second } else { first }
 }
 
-/// The file of this name, in which there is nothing; none where there is no name.
-///
-/// # Errors
-/// Those of `make_one`.
-pub(crate) fn make_any<'a, F: Files>(
-    alloc: Global,
-    files: &mut F,
-    name: Option<&'a str>,
-) -> Result<Option<F::Made>, Fault<'a>>
-    ensures opened { IfOk result (λ _. F.seen files.new
-        ≡ after_opening (F.seen files.old) (any_name (any_text name.entry))) }
-    ensures file { IfOk result
-        (λ made. IsNewFile (any_text name.entry) (option_map F.Made.stream made)) }
-    ensures fault { IfErr result
-        (FailsToRead (F.seen files.old) (F.seen files.new) (any_name (any_text name.entry))) }
-{
-    match name {
-        Some(given) => match make_one(alloc, files, given) {
-            Ok(file) => Ok(Some(file)),
-            Err(fault) => Err(fault),
-        },
-        None => Ok(None),
-    }
-}
-
-/// Holds sessions of these seats over one run of a setup file, which go on from a journal if one is named, and returns
-/// the status. A fault is not reported yet.
-fn hold_seats<
+/// Holds sessions of these seats, one at least, over one run of a setup file, which go on from a journal, and their
+/// journal is kept in a file and a page of their run in another, where these are named; reports what failed of them,
+/// and of the page behind all else, and returns the status. A fault is not reported yet.
+pub fn share<
     'a,
     R: Threads + Wait + Clock + Sync,
     F: Files + Drop,
@@ -129,67 +85,31 @@ fn hold_seats<
 >(
     threads: &R,
     alloc: Global,
-    setup: &'a str,
+    names: Names<'a>,
     seats: &[&'a str],
-    from: Option<&'a str>,
-    file: Option<&'a str>,
     world: &mut World<F, I, O, E>,
 ) -> Result<u8, Fault<'a>>
     requires { 1 ≤ length seats.now }
-    ensures sessions { IfOk result
-        (HoldsSeats setup.entry.now (texts seats.now) (any_text from.entry) (any_text file.entry)
-        world.old world.new) }
-    ensures fault { IfErr result (IsFaultOfSeats setup.entry.now (texts seats.now) (any_text from.entry)
-        (any_name (any_text file.entry)) world.old.files world.new.files) }
-    ensures output { IfErr result (λ _. world.new.output ≡ world.old.output) }
+    ensures sessions { IfOk result (HoldsSeats (named names.entry) (texts seats.now) world.old world.new) }
+    ensures fault { IfErr result (HoldsNone (named names.entry) (texts seats.now) world.old world.new) }
     ensures error { IfErr result (λ _. world.new.error ≡ world.old.error) }
     ensures none { HasNoSession world.old world.new }
 {
     if seats.len() > usize::from(MAX_SEATS) {
         return Err(Fault::TooManySeats);
     }
-    let (json, journal) = read_beginning(alloc, &mut world.files, setup, from)?;
+    let (json, from) = read_beginning(alloc, &mut world.files, names.setup, names.from)?;
     let openers = find_each(alloc, &mut world.files, seats)?;
-    let file = make_any(alloc, &mut world.files, file)?;
+    let (json, from) = (json.as_slice(), from.as_slice());
+    let keeping = keep(alloc, &mut world.files, names, json, from)?;
     let (output, error) = (&mut world.streams.output, &mut world.error);
     match debug_shared::<AnyRun, Printed, _, _, R, O, E>(
-        threads,
-        alloc,
-        json.as_slice(),
-        journal.as_slice(),
-        openers,
-        file,
-        output,
-        error,
+        threads, alloc, json, from, openers, keeping, output, error,
     ) {
-        Ok((status, _)) => Ok(status),
+        Ok((status, kept)) => {
+            let shown = report(of_page(shown_in(names.page, &kept)), &mut world.error);
+            Ok(first_status(status, shown))
+        }
         Err(fault) => Err(Fault::Race(fault)),
-    }
-}
-
-/// Holds sessions of these seats, one at least, over one run of a setup file, which go on from a journal if one is
-/// named, reports on standard error what failed, and returns the status with which the program ends.
-pub fn perform_shared<
-    R: Threads + Wait + Clock + Sync,
-    F: Files + Drop,
-    I: Source + Drop,
-    O: Sink + Drop,
-    E: Sink + Drop,
->(
-    threads: &R,
-    alloc: Global,
-    setup: &str,
-    seats: &[&str],
-    from: Option<&str>,
-    file: Option<&str>,
-    world: &mut World<F, I, O, E>,
-) -> u8
-    requires { 1 ≤ length seats.now }
-    ensures { PerformsShared setup.now (texts seats.now) (any_text from.entry) (any_text file.entry)
-        world.old world.new result }
-{
-    match hold_seats(threads, alloc, setup, seats, from, file, world) {
-        Ok(status) => status,
-        Err(fault) => report(Err(fault), &mut world.error),
     }
 }

@@ -21,7 +21,8 @@ returns-clause-does g c =
       inr (
         json,
         bytes,
-        c.in_ok-json.ensures,
+        c.in_ok-json.ensures.0,
+        c.in_ok-json.ensures.1,
         (
           c.replay-replayed.result,
           Some c.replay-replayed.new.journal,

@@ -1,5 +1,0 @@
-use Rattle.cdb_program.proofs.OpenedFiles.{fails_one}
-use Rattle.cdb_program.proofs.replays.read_journal.Goals as goal
-
-pub returns-in-Err : goal.returns-in-Err
-returns-in-Err g c = rw c.from.ensures (fails_one _ _ _ c.in-Err.fault c.in-Err.ensures)
