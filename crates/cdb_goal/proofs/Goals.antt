@@ -1,11 +1,10 @@
 -- What the processes that are shown say of a goal.
-use Rattle.std.proofs.Common.{◌≡◌, ◌≢◌, ◌↔◌, ◌==◌, inl, inr, ℕ, Bool, false, List, Option, Some, None, IsTrue, not, refl, sym, ◌∙◌, arith}
+use Rattle.std.proofs.Common.{◌≡◌, ◌≢◌, ◌↔◌, ◌==◌, inl, inr, ℕ, false, List, Option, Some, None, IsTrue, not, refl, sym, ◌∙◌, arith}
 use Rattle.std.specs.Option.{option_map_or}
 use Rattle.std.proofs.lemmas.Bool.Decides.{eqb_tells, nat_tests}
 use Rattle.cdb_base.specs.declared.event.Event.{Event}
-use Rattle.cdb_goal.specs.Holds.{Holds, IsDecided, ShowsProcess}
+use Rattle.cdb_goal.specs.Holds.{Holds, IsDecided, ShowsProcess, Differ}
 use Rattle.cdb_goal.specs.Tests.{passes}
-use Rattle.cdb_goal.specs.declared.goal.Goal.TheVariants.{Differ}
 use Rattle.cdb_goal.specs.declared.tests.Test.{Test}
 use Rattle.cdb_goal.specs.declared.tests.Test.TheVariants.{HasDecidedOther}
 use Rattle.cdb_rules.specs.Rules.{Rules}

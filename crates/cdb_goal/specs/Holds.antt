@@ -1,8 +1,8 @@
 -- What a goal says of a run.
 use Rattle.std.specs.Prelude.{◌≡◌, ◌≢◌, ℕ, ◌≤◌, true, List, Some, IsSome}
 use Rattle.cdb_base.specs.declared.event.Event.{Event}
-use Rattle.cdb_goal.specs.declared.goal.Goal.{Goal}
-use Rattle.cdb_goal.specs.declared.goal.Goal.TheVariants.{Differ, All, Stuck, Decides}
+pub use Rattle.cdb_goal.specs.declared.goal.Goal.{Goal}
+pub use Rattle.cdb_goal.specs.declared.goal.Goal.TheVariants.{Differ, All, Stuck, Decides}
 use Rattle.cdb_rules.specs.Rules.{Rules, Shown}
 use Rattle.cdb_rules.specs.Views.{decision_of}
 

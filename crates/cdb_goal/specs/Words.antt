@@ -2,8 +2,8 @@
 use Rattle.std.specs.Prelude.{◌≡◌, ℕ, ◌≤◌, ◌==◌, ◌++◌, Bool, List, codes}
 use Rattle.std.specs.List.{after_first, before_first}
 use Rattle.std.specs.Str.Parse.{IsNumeral, digits_value, without_leading_plus}
-use Rattle.cdb_goal.specs.declared.goal.Goal.{Goal}
-use Rattle.cdb_goal.specs.declared.goal.Goal.TheVariants.{Differ, All, Stuck, Decides}
+pub use Rattle.cdb_goal.specs.declared.goal.Goal.{Goal}
+pub use Rattle.cdb_goal.specs.declared.goal.Goal.TheVariants.{Differ, All, Stuck, Decides}
 use Rattle.cdb_base.specs.Limits.{MAX_NUMBER}
 
 -- a number of this or more, in digits, after a plus or not

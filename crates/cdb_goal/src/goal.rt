@@ -2,8 +2,7 @@
 
 ghost use Rattle.std.specs.Prelude.{◌≡◌, ℕ, MatchOption};
 ghost use Rattle.std.specs.List.{after_first, before_first};
-ghost use Rattle.cdb_goal.specs.Words.{HasNoColon, IsNumbersOf, IsWordOf, WritesNumber, is_colon};
-ghost use Rattle.cdb_goal.specs.declared.goal.Goal.{Goal as GoalName};
+ghost use Rattle.cdb_goal.specs.Words.{HasNoColon, IsNumbersOf, IsWordOf, WritesNumber, is_colon, Goal as GoalName};
 
 use cdb_base::limits::MAX_NUMBER;
 

@@ -1,9 +1,6 @@
-use Rattle.std.proofs.Common.{◌≡◌, ◌∙◌, ℕ, List, ap, sym, codes}
+use Rattle.std.proofs.Common.{◌≡◌, ◌∙◌, ℕ, List, ap, sym, codes, bytes_eq}
 use Rattle.std.proofs.lemmas.Bool.{false≢true}
-use Rattle.std.specs.Str.{bytes_eq}
-use Rattle.cdb_goal.specs.Words.{IsWordOf}
-use Rattle.cdb_goal.specs.declared.goal.Goal.{Goal as GoalName}
-use Rattle.cdb_goal.specs.declared.goal.Goal.TheVariants.{Differ, All, Stuck, Decides}
+use Rattle.cdb_goal.specs.Words.{IsWordOf, Goal as GoalName, Differ, All, Stuck, Decides}
 use Rattle.cdb_goal.proofs.goal.Goal.read.Goals as goal
 
 -- a word that names none of each kind names none
