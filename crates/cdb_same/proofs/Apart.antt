@@ -7,10 +7,7 @@ use Rattle.cdb_causal.specs.Exchange.{IsExchanged, KeepsOrder}
 use Rattle.cdb_causal.specs.StandingEvents.{IsStanding}
 use Rattle.cdb_same.proofs.Before.{before_then, each_once}
 use Rattle.cdb_same.specs.Come.{StandWithin}
-use Rattle.cdb_same.specs.Comparisons.{IsComparison}
-use Rattle.cdb_same.specs.declared.compare.Comparison.{Comparison}
-use Rattle.cdb_same.specs.declared.compare.Comparison.TheVariants.{Same, Alone, OtherOrder}
-use Rattle.cdb_same.specs.declared.compare.Which.TheVariants.{First, Second}
+use Rattle.cdb_same.specs.Comparisons.{IsComparison, Comparison, First, Second, Same, Alone, OtherOrder}
 
 pub same_exactly : (history other : List Event) → IsStanding other → (found : Comparison)
     → IsComparison history other found → (found ≡ Same) ↔ IsExchanged depends history other

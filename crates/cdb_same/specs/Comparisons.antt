@@ -9,9 +9,9 @@ use Rattle.cdb_causal.specs.Dependence.{depends}
 use Rattle.cdb_causal.specs.Exchange.{IsExchanged, IsIn, IsBefore}
 use Rattle.cdb_causal.specs.StandingEvents.{IsStanding}
 use Rattle.cdb_standing.specs.Comparisons.{AreNumbered}
-use Rattle.cdb_same.specs.declared.compare.Comparison.{Comparison}
-use Rattle.cdb_same.specs.declared.compare.Comparison.TheVariants.{Same, Alone, OtherOrder}
-use Rattle.cdb_same.specs.declared.compare.Which.TheVariants.{First, Second}
+pub use Rattle.cdb_same.specs.declared.compare.Comparison.{Comparison}
+pub use Rattle.cdb_same.specs.declared.compare.Comparison.TheVariants.{Same, Alone, OtherOrder}
+pub use Rattle.cdb_same.specs.declared.compare.Which.TheVariants.{First, Second}
 
 -- the event stands in the one history, and not in the other
 abbrev pub IsAlone : List Event → List Event → Event → Type 0

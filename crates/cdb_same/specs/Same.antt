@@ -17,9 +17,8 @@ use Rattle.cdb_streams.specs.declared.fault.PlayFault.{PlayFault}
 use Rattle.cdb_streams.specs.declared.fault.PlayFault.TheVariants.{Setup, Line, ScriptTooLong, Read, Write, NoMemory}
 use Rattle.cdb_streams.specs.declared.script.ScriptFault.{ScriptFault}
 use Rattle.cdb_streams.specs.declared.script.ScriptFault.TheVariants as script
-use Rattle.cdb_same.specs.Comparisons.{IsComparison}
+use Rattle.cdb_same.specs.Comparisons.{IsComparison, Comparison}
 use Rattle.cdb_same.specs.Texts.{comparison_text}
-use Rattle.cdb_same.specs.declared.compare.Comparison.{Comparison}
 
 -- ---- what is written
 

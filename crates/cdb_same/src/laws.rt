@@ -5,9 +5,7 @@ ghost use Rattle.cdb_base.specs.declared.event.Event.{Event};
 ghost use Rattle.cdb_causal.specs.Dependence.{depends};
 ghost use Rattle.cdb_causal.specs.Exchange.{IsExchanged};
 ghost use Rattle.cdb_causal.specs.StandingEvents.{IsStanding};
-ghost use Rattle.cdb_same.specs.Comparisons.{IsComparison};
-ghost use Rattle.cdb_same.specs.declared.compare.Comparison.{Comparison};
-ghost use Rattle.cdb_same.specs.declared.compare.Comparison.TheVariants.{Same};
+ghost use Rattle.cdb_same.specs.Comparisons.{IsComparison, Comparison, Same};
 
 /// A comparison says that the histories are the same exactly where exchanges of independent neighbours lead from one
 /// to the other: so an event that stands in one alone, and two that stand in other orders, say that none do.
