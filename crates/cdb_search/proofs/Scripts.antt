@@ -5,7 +5,10 @@ use Rattle.cdb_goal.specs.Holds.{Holds}
 use Rattle.cdb_goal.specs.declared.goal.Goal.{Goal}
 use Rattle.cdb_rules.specs.RunView.{RunView}
 use Rattle.cdb_rules.specs.Rules.{Rules}
-use Rattle.cdb_search.specs.Shrunk.{HoldsAfter}
+use Rattle.cdb_search.specs.Shrunk.{HoldsAfter, IsFaultOfShrink}
+use Rattle.cdb_base.specs.declared.no_memory.NoMemory.{NoMemory}
+use Rattle.cdb_explain.specs.declared.fault.AnswerFault.TheVariants.{Play}
+use Rattle.cdb_streams.specs.declared.fault.PlayFault.TheVariants as play
 use Rattle.cdb_search.specs.Found.{IsFound, IsScriptTo}
 use Rattle.cdb_setup.specs.Format.{Encodes}
 use Rattle.cdb_setup.specs.Parts.{Parts}
@@ -27,3 +30,7 @@ pub same_left : (rules : Rules) (setup : Parts) (goal : Goal) (history : List Ev
     → HoldsAfter rules setup goal (map command_for history) ↔ Holds rules history goal
 same_left rules setup goal history plays =
     (λ holds. subst (λ (h : List Event). Holds rules h goal) plays.left holds, λ holds. subst (λ (h : List Event). Holds rules h goal) (sym plays.left) holds)
+
+-- out of memory is a fault of a shrink
+pub memory_is_out : (rules : Parts → Rules) (run : RunView) (goal : Goal) (refused : NoMemory) → IsFaultOfShrink rules run goal (Play (play.NoMemory refused))
+memory_is_out rules run goal refused = tt

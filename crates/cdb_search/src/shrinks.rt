@@ -22,6 +22,7 @@ use std::alloc::Global;
 ///
 /// Promise: What a shrink makes are lines of the slice of the run, in their order. Played from the start the goal holds
 /// in the end, and without any one of them it does not. `DoesNotHold` comes only where it does not hold of that run.
+#[tactic(auto, using(crate::proofs::Scripts::memory_is_out))]
 pub fn shrink<T: Runs>(alloc: Global, run: &Trace, goal: Goal) -> Result<Vec<u8>, AnswerFault>
     requires valid { IsInOrder T.rules run.now }
     requires few { length run.now.history ≤ MAX_ENTRIES }

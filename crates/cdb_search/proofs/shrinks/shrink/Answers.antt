@@ -1,31 +1,10 @@
 use Rattle.std.proofs.Common.{◌≡◌, ◌∙◌, map, ap, sym}
 use Rattle.std.proofs.lemmas.Bool.{false≢true}
-use Rattle.std.proofs.lemmas.Result.{err_from_is_err_and}
 use Rattle.cdb_rules.specs.RunView.{RunView}
 use Rattle.cdb_search.proofs.Scripts.{same_left}
 use Rattle.cdb_setup.specs.Parts.{AreInRange}
 use Rattle.cdb_slice.specs.Scripts.{command_for}
 use Rattle.cdb_search.proofs.shrinks.shrink.Goals as goal
-
-pub returns-in_err-commands-clause-fault : goal.returns-in_err-commands-clause-fault
-returns-in_err-commands-clause-fault g c =
-    let p = err_from_is_err_and c.from_residual.result c.from_residual.ensures.1 in
-    rw (p.1, p.2) tt
-
-pub returns-in_err-holds_after-clause-fault : goal.returns-in_err-holds_after-clause-fault
-returns-in_err-holds_after-clause-fault g c =
-    let p = err_from_is_err_and c.from_residual-in_err-holds_after.result c.from_residual-in_err-holds_after.ensures.1 in
-    rw (p.1, p.2) tt
-
-pub returns-in_err-lines-clause-fault : goal.returns-in_err-lines-clause-fault
-returns-in_err-lines-clause-fault g c =
-    let p = err_from_is_err_and c.from_residual-in_err-lines.result c.from_residual-in_err-lines.ensures.1 in
-    rw (p.1, p.2) tt
-
-pub returns-in_err-lines_of-clause-fault : goal.returns-in_err-lines_of-clause-fault
-returns-in_err-lines_of-clause-fault g c =
-    let p = err_from_is_err_and c.from_residual-in_err-lines_of.result c.from_residual-in_err-lines_of.ensures.1 in
-    rw (p.1, p.2) tt
 
 pub returns-then-not-branch-clause-fault : goal.returns-then-not-branch-clause-fault
 returns-then-not-branch-clause-fault g c =
