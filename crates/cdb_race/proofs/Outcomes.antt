@@ -1,7 +1,7 @@
 -- What the final journal has of the seats of a race, and what a race has done when it ended.
 use Rattle.std.proofs.lemmas.Grind.{common_steps}
 use Rattle.std.proofs.lemmas.Option.{gets}
-use Rattle.std.proofs.Common.{◌≡◌, ℕ, ◌+◌, ◌-◌, ◌<◌, ◌≤◌, Bool, List, [], ◌∷◌, All, Option, Some, length, map, reverse, replicate, take, get_or, refl}
+use Rattle.std.proofs.Common.{◌≡◌, ℕ, ◌+◌, ◌-◌, ◌<◌, ◌≤◌, Bool, List, [], All, Option, Some, None, length, map, reverse, replicate, take, get_or, refl}
 use Rattle.std.proofs.Common.{sym, ap, ◌∙◌, subst, arith, length-append}
 use Rattle.std.proofs.lemmas.List.{length-map, length-reverse}
 use Rattle.atomic_table.specs.Seated.{TableId}
@@ -13,14 +13,12 @@ use Rattle.cdb_commands.specs.declared.command.Command.{Command}
 use Rattle.cdb_commands.specs.declared.command.Command.TheVariants.{Auto}
 use Rattle.cdb_race.specs.Faults.{fault_at, AreWell}
 use Rattle.cdb_race.specs.LastFault.{IsLastFault}
-use Rattle.cdb_race.specs.Plans.{seats_of}
+use Rattle.cdb_race.specs.Plans.{script_of, seats_of, Plan}
 use Rattle.cdb_race.specs.Promises.{HasRan, IsReady}
-use Rattle.cdb_race.specs.Races.{AreRepliesOf, AreSeatsOf, FillsJournal, HaveRan, IsRaced, IsUnderWay, replies_in}
-use Rattle.cdb_race.specs.Runs.{HasFinished, IsDrivenOut}
-use Rattle.cdb_race.specs.declared.plan.Plan.{Plan}
-use Rattle.cdb_race.specs.declared.worker.Ran.{Ran}
+use Rattle.cdb_race.specs.Races.{AreRepliesOf, AreSeatsOf, FillsJournal, HaveRan, IsRaced, IsUnderWay, replies_in, Ran}
+use Rattle.cdb_race.specs.Runs.{IsDrivenOut}
 use Rattle.cdb_race.proofs.Collected.{taken_at}
-use Rattle.cdb_race.proofs.Finishes.{ends_well, finished}
+use Rattle.cdb_race.proofs.Finishes.{driven_out, served_out}
 use Rattle.cdb_rules.specs.Rules.{Rules}
 use Rattle.cdb_setup.specs.Parts.{Parts}
 use Rattle.cdb_shared.proofs.Ends.{some_of}
@@ -147,10 +145,11 @@ module _ {T G : Type 0} {rules : Parts → Rules} {gate_calls : G → Option (Li
       pub raced : (well : AreWell rans) (replies_given : List (List ReplyView)) → AreRepliesOf replies_given rans
           → IsRaced rules setup plan.turns plan.scripts.now c replies_given
       raced well replies_given answered =
-          let finished_at : (k : ℕ) → k < seats_of plan → HasFinished rules plan (fresh_seat shared (opened setup (seats_of plan)) (1 + k))
-          (ran_at k).seat (map reply_view (ran_at k).replies.items) =
-          λ k low. finished rules plan _ (ran_at k).seat (map reply_view (ran_at k).replies.items) (ran_at k).end
-          (ends_well _ _ (well (seats_of plan - 1 - k) nobody (omega (arith, low, many)))) (has_ran k nobody low) in
+          let well_at : (k : ℕ) → k < seats_of plan → fault_at (ran_at k).seat.number (ran_at k).end ≡ None =
+          λ k low. well (seats_of plan - 1 - k) nobody (omega (arith, low, many)) in
+          let served_at : (k : ℕ) (high : plan.processes < 1 + k) (low : k < seats_of plan) → (calls_of (ran_at k).seat ≡ script_of plan (1 + k))
+          × (replies_to rules (ran_at k).seat ≡ map reply_view (ran_at k).replies.items) =
+          λ k high low. served_out rules (script_of plan (1 + k)) _ _ (ran_at k).end (well_at k low) ((has_ran k nobody low).served high) in
           let replied_at : (k : ℕ) → k < seats_of plan → get_or replies_given k [] ≡ map reply_view (ran_at k).replies.items =
           λ k low. taken_at (λ (r : Ran T). map reply_view r.replies.items) rans (seats_of plan) k nobody [] answered many low in
           record {
@@ -162,20 +161,21 @@ module _ {T G : Type 0} {rules : Parts → Rules} {gate_calls : G → Option (Li
                 let is : p ≡ 1 + (p - 1) = omega (arith, from) in
                 let mine = own_at (p - 1) p low is in
                 subst (λ (y : ℕ × List Command × List ReplyView). IsDrivenOut y.0 plan.turns y.1 y.2)
-                (λ i. (mine.0 i, sym mine.1 i, sym (replies_at (p - 1) p low is) i)) ((finished_at (p - 1) low).driven (omega (arith, from, to, same))).0;
+                (λ i. (mine.0 i, sym mine.1 i, sym (replies_at (p - 1) p low is) i))
+                (driven_out rules plan.turns _ _ (well_at (p - 1) low) ((has_ran (p - 1) nobody low).driven (omega (arith, from, to, same))).0);
             served = λ k below.
                 let low : plan.processes + k < seats_of plan = omega (arith, below) in
                 (own_at (plan.processes + k) (setup.processes + k + 1) low (omega (arith, same))).1
-                ∙ ((finished_at (plan.processes + k) low).served (omega arith)).0 ∙ script_at k;
+                ∙ (served_at (plan.processes + k) (omega arith) low).0 ∙ script_at k;
             many = ap length answered ∙ length-map (reverse rans) _ ∙ length-reverse rans ∙ many ∙ sym seats_are;
             none = λ k below.
                 let low : k < seats_of plan = omega (arith, below, same) in
-                replied_at k low ∙ ((finished_at k low).driven (omega (arith, below, same))).1;
+                replied_at k low ∙ ((has_ran k nobody low).driven (omega (arith, below, same))).1;
             replied = λ k below.
                 let low : plan.processes + k < seats_of plan = omega (arith, below) in
                 ap (λ n. get_or replies_given (n + k) []) (sym same) ∙ replied_at (plan.processes + k) low
                 ∙ sym (replies_at (plan.processes + k) (setup.processes + k + 1) low (omega (arith, same))
-                ∙ ((finished_at (plan.processes + k) low).served (omega arith)).1);
+                ∙ (served_at (plan.processes + k) (omega arith) low).1);
           }
 
     -- a session that met a full journal has seen one that the race has filled

@@ -1,16 +1,14 @@
 -- A race's fault names one of its seats, where it names a seat.
 use Rattle.std.proofs.lemmas.Grind.{common_steps}
 use Rattle.std.proofs.lemmas.Option.{gets}
-use Rattle.std.proofs.Common.{◌≡◌, inl, inr, ℕ, ◌+◌, ◌-◌, ◌<◌, ◌≤◌, Bool, List, [], ◌∷◌, Option, Some, length, get_or, sym, ap, ◌∙◌, arith}
+use Rattle.std.proofs.Common.{◌≡◌, inl, inr, ℕ, ◌+◌, ◌-◌, ◌<◌, ◌≤◌, Bool, List, Option, Some, length, get_or, sym, ap, ◌∙◌, arith}
 use Rattle.atomic_table.specs.Seated.{TableId}
 use Rattle.cdb_control.specs.Journal.{opened}
 use Rattle.cdb_commands.specs.declared.command.Command.{Command}
 use Rattle.cdb_race.specs.LastFault.{IsLastFault}
 use Rattle.cdb_race.specs.Faults.{fault_at, fault_in, IsAmongSeats, IsNotStopped, IsOfLeastSeat, IsFaultOfOne}
-use Rattle.cdb_race.specs.Plans.{seats_of}
-use Rattle.cdb_race.specs.Races.{AllPass, HaveRan}
-use Rattle.cdb_race.specs.declared.plan.Plan.{Plan}
-use Rattle.cdb_race.specs.declared.worker.Ran.{Ran}
+use Rattle.cdb_race.specs.Plans.{seats_of, Plan}
+use Rattle.cdb_race.specs.Races.{AllPass, HaveRan, Ran}
 use Rattle.cdb_race.proofs.Outcomes.{has_ran, many}
 use Rattle.cdb_rules.specs.Rules.{Rules}
 use Rattle.cdb_setup.specs.Parts.{Parts, IsWithin}

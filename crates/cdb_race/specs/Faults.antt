@@ -5,10 +5,8 @@ use Rattle.std.specs.Global.{Global}
 use Rattle.atomic_table.specs.Seated.{TableId}
 use Rattle.cdb_commands.specs.declared.command.Command.{Command}
 use Rattle.cdb_commands.specs.declared.reply.Reply.{Reply}
-use Rattle.cdb_race.specs.Plans.{seats_of}
-use Rattle.cdb_race.specs.Races.{AllRan, AllEnded}
-use Rattle.cdb_race.specs.declared.plan.Plan.{Plan}
-use Rattle.cdb_race.specs.declared.worker.Ran.{Ran}
+use Rattle.cdb_race.specs.Plans.{seats_of, Plan}
+use Rattle.cdb_race.specs.Races.{AllRan, AllEnded, Ran}
 use Rattle.cdb_base.specs.Memory.{no_memory}
 use Rattle.cdb_rules.specs.Rules.{Rules}
 use Rattle.cdb_setup.specs.Parts.{Parts, IsWithin}

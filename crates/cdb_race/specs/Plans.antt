@@ -1,7 +1,7 @@
 -- What each seat of a race is to do.
 use Rattle.std.specs.Prelude.{ℕ, ◌+◌, ◌-◌, List, [], length, slice_index_or}
 use Rattle.cdb_commands.specs.declared.command.Command.{Command}
-use Rattle.cdb_race.specs.declared.plan.Plan.{Plan}
+pub use Rattle.cdb_race.specs.declared.plan.Plan.{Plan}
 
 -- the seats of the processes come first, and then those of the scripts
 abbrev pub seats_of : Plan → ℕ

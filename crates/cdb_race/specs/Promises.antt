@@ -3,7 +3,6 @@ use Rattle.std.specs.Prelude.{◌≡◌, ◌≢◌, ◌≤◌, Bool, true, List,
 use Rattle.std.specs.declared.thread.PromisedHandle.{PromisedHandle}
 use Rattle.cdb_commands.specs.ReplyView.{reply_view}
 use Rattle.cdb_race.specs.Runs.{HasRun}
-use Rattle.cdb_race.specs.declared.plan.Plan.{Plan}
 use Rattle.cdb_race.specs.declared.worker.Ran.{Ran}
 use Rattle.cdb_race.specs.declared.worker.SeatPromise.{SeatPromise}
 use Rattle.cdb_rules.specs.Rules.{Rules}
@@ -13,7 +12,7 @@ use Rattle.cdb_shared.specs.Seats.{SeatView, RestsAt}
 use Rattle.cdb_shared.specs.declared.session.End.{End}
 use Rattle.cdb_shared.specs.declared.session.End.TheVariants.{Stopped}
 use Rattle.atomic_table.specs.Seated.{TableId}
-use Rattle.cdb_race.specs.Plans.{seats_of}
+use Rattle.cdb_race.specs.Plans.{seats_of, Plan}
 
 -- a promise of this seat, with this gate, by this plan
 pub record IsPromise {T G : Type 0} (plan : Plan) (seat : SeatView)

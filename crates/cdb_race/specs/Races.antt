@@ -13,7 +13,7 @@ use Rattle.cdb_race.specs.Promises.{HasRan, HasEndedAtGate}
 use Rattle.cdb_race.specs.Runs.{IsDrivenOut}
 use Rattle.cdb_race.specs.declared.plan.Plan.{Plan}
 use Rattle.cdb_race.specs.declared.threads.Raced.{Raced}
-use Rattle.cdb_race.specs.declared.worker.Ran.{Ran}
+pub use Rattle.cdb_race.specs.declared.worker.Ran.{Ran}
 use Rattle.cdb_rules.specs.Rules.{Rules}
 use Rattle.cdb_setup.specs.Parts.{Parts}
 use Rattle.cdb_shared.specs.Gates.{GateCall}

@@ -4,8 +4,7 @@ use Rattle.cdb_base.specs.Limits.{MAX_ENTRIES}
 use Rattle.cdb_commands.specs.ReplyView.{ReplyView}
 use Rattle.cdb_commands.specs.declared.command.Command.{Command}
 use Rattle.cdb_commands.specs.declared.command.Command.TheVariants.{Auto}
-use Rattle.cdb_race.specs.Plans.{script_of}
-use Rattle.cdb_race.specs.declared.plan.Plan.{Plan}
+use Rattle.cdb_race.specs.Plans.{script_of, Plan}
 use Rattle.cdb_rules.specs.Rules.{Rules}
 use Rattle.cdb_setup.specs.Parts.{Parts}
 use Rattle.cdb_shared.specs.Seats.{SeatView, IsLater}
@@ -37,10 +36,6 @@ pub record HasRun (rules : Parts → Rules) (plan : Plan)
   pub served : plan.processes < before.number → HasServed rules (script_of plan before.number) seat replied end
   pub full : end ≡ JournalFull → length seat.seen ≡ MAX_ENTRIES
 
--- the session ended well: its script was served to the end, or its process was done or had its turns
-abbrev pub EndsWell : End → Type 0
-EndsWell end = (end ≡ All) ⊎ (end ≡ Done)
-
 -- the steps of a process by `auto`: all its turns, none refused as it was done; or fewer or as many, the last alone
 -- refused so
 pub record IsDrivenOut (process turns : ℕ) (calls : List Command) (replied : List ReplyView) : Type 0 where
@@ -48,12 +43,3 @@ pub record IsDrivenOut (process turns : ℕ) (calls : List Command) (replied : L
   pub few : count ≤ turns
   pub calls_are : calls ≡ replicate count (Auto process)
   pub ended : IsDriven All count turns replied ⊎ IsDriven Done count turns replied
-
--- what a seat has done where its session ended well
-pub record HasFinished (rules : Parts → Rules) (plan : Plan)
-    (before seat : SeatView) (replied : List ReplyView) : Type 0 where
-  pub later : IsLater before seat
-  pub driven : before.number ≤ plan.processes
-      → IsDrivenOut seat.number plan.turns (calls_of seat) (replies_to rules seat) × (replied ≡ [])
-  pub served : plan.processes < before.number
-      → (calls_of seat ≡ script_of plan before.number) × (replies_to rules seat ≡ replied)

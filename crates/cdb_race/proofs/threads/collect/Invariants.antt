@@ -1,7 +1,6 @@
 use Rattle.std.proofs.Common.{◌≡◌, ◌+◌, ◌≤◌, ◌++◌, map, reverse, vec_len, vec_capacity}
 use Rattle.cdb_commands.specs.ReplyView.{reply_view}
-use Rattle.cdb_race.specs.Races.{all_reply_views}
-use Rattle.cdb_race.specs.declared.worker.Ran.{Ran}
+use Rattle.cdb_race.specs.Races.{all_reply_views, Ran}
 use Rattle.cdb_race.proofs.threads.collect.Given as goal
 
 abbrev pub invariant-loop-ran : goal.invariant-loop-ran
