@@ -1,6 +1,5 @@
 -- The rows once the clock of the next step has been added.
-use Rattle.std.proofs.Common.{◌≡◌, ℕ, suc, ◌+◌, ◌≤◌, ◌⊎◌, inl, inr, List, [], length, cond}
-use Rattle.std.proofs.Common.{Some, sym, ap, ◌∙◌, arith}
+use Rattle.std.proofs.Common.{◌≡◌, ℕ, suc, ◌+◌, ◌≤◌, ◌⊎◌, inl, inr, List, [], length, cond, Some, sym, ap, ◌∙◌, arith}
 use Rattle.std.proofs.lemmas.Grind.{common_steps}
 use Rattle.std.proofs.lemmas.Option.{gets, same_Some}
 use Rattle.cdb_base.specs.Event.{is_step_of}
@@ -9,14 +8,15 @@ use Rattle.cdb_base.specs.declared.event.Event.{Event}
 use Rattle.cdb_base.specs.declared.event.Event.TheVariants.{Step, Lost}
 use Rattle.cdb_base.specs.declared.event.Kind.{Kind}
 use Rattle.cdb_base.specs.declared.name.CopyName.{CopyName}
-use Rattle.cdb_clocks.specs.Clocks.{IsClock}
-use Rattle.cdb_clocks.specs.Rows.{AreKept}
+use Rattle.cdb_causal.proofs.Lists.{nth_within}
+use Rattle.cdb_clocks.specs.Clocks.{AreClocks, IsClock}
+use Rattle.cdb_clocks.specs.Rows.{clock_in, AreKept}
 use Rattle.cdb_rules.proofs.Undo.{stands_from_one}
 use Rattle.cdb_same.proofs.Ranks.{its_own, next_counted, next_passes, number_is}
 use Rattle.cdb_same.specs.Comparisons.{AreNumberedUpTo, IsComparable}
 use Rattle.cdb_standing.specs.Tables.{row_of, IsPutOn}
 
-pub last_position : (at end : ℕ) → at ≤ suc end → (at ≤ end) ⊎ (at ≡ suc end)
+last_position : (at end : ℕ) → at ≤ suc end → (at ≤ end) ⊎ (at ≡ suc end)
 last_position at end few = grind arith
 
 -- before the first event the rows are empty
@@ -47,6 +47,13 @@ kept_on history end rows new event kept stands still longer its = record {
 }
 
 module _ (history : List Event) (end : ℕ) (rows : List (List (List ℕ))) (kept : AreKept history end rows) where
+  -- at the end of the history they have all clocks
+  pub all_kept : length history ≤ end → AreClocks history (clock_in rows)
+  all_kept most at p k kind there =
+      let within = nth_within history at (Step p k kind) there in
+      let its = kept.clocks at p k kind there (omega (arith, within, most)) in
+      rw its.1 its.2
+
   -- a loss has none
   pub kept_at_loss : (copy : CopyName) → nth history (suc end) ≡ Some (Lost copy) → AreKept history (suc end) rows
   kept_at_loss copy stands =

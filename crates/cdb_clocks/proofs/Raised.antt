@@ -19,13 +19,12 @@ use Rattle.cdb_causal.specs.Names.{IsNamedAt}
 use Rattle.cdb_causal.specs.Past.{HasLedTo, one_link}
 use Rattle.cdb_clocks.proofs.Led.{last_cause, led_then, no_later, own_led}
 use Rattle.cdb_clocks.specs.Clocks.{IsClock}
-use Rattle.cdb_clocks.specs.Rows.{clock_named, AreKept, HasLedOf, IsRaised, IsRaisedBy}
+use Rattle.cdb_clocks.specs.Rows.{clock_in, AreKept, HasLedOf, IsRaisedBy, IsRaisedTo}
 use Rattle.cdb_same.proofs.Counted.{count_other, count_set, none_counted}
 use Rattle.cdb_same.proofs.Ranks.{from_one, in_order}
 use Rattle.cdb_same.specs.Comparisons.{AreNumberedUpTo, IsComparable}
 use Rattle.cdb_standing.specs.Cuts.{cut_of as count_of}
 use Rattle.cdb_standing.specs.Moves.{HasStep}
-use Rattle.cdb_standing.specs.Tables.{row_of}
 
 -- the greater one is one of both
 one_of : (Holds : ℕ → Type 0) (a b m : ℕ) → m ≡ max a b → Holds a → Holds b → Holds m
@@ -52,7 +51,7 @@ module _ (history : List Event) (comparable : IsComparable history) (numbered : 
   module _ (end : ℕ) (names : List StepId) (clock new : List ℕ) (so_far : HasLedOf history (suc end) names clock)
       (rows : List (List (List ℕ))) (kept : AreKept history end rows) where
     by_step : (y p k : ℕ) (kind : Kind) → IsDirectCause depends history y (suc end)
-        → nth history y ≡ Some (Step p k kind) → IsRaised (nth (row_of rows p) k) clock new
+        → nth history y ≡ Some (Step p k kind) → IsRaisedBy (clock_in rows p k) clock new
         → HasLedOf history (suc end) (names ++ named.Step (record { p = p; k = k }) ∷ []) new
     by_step y p k kind direct at_y raised =
         let later = direct.link.later in
@@ -80,10 +79,10 @@ module _ (history : List Event) (comparable : IsComparable history) (numbered : 
 
     -- the clock is raised to that of one direct cause more
     pub raised_more : (name : StepId) → NamesDirectCause history (suc end) name
-        → IsRaised (clock_named rows name) clock new → HasLedOf history (suc end) (names ++ name ∷ []) new
+        → IsRaisedTo rows name clock new → HasLedOf history (suc end) (names ++ name ∷ []) new
     raised_more name (y, direct, (Step p k kind, at_y, is)) raised =
         subst (λ n. HasLedOf history (suc end) (names ++ n ∷ []) new) is
-        (by_step y p k kind direct at_y (subst (λ n. IsRaised (clock_named rows n) clock new) (sym is) raised))
+        (by_step y p k kind direct at_y (subst (λ n. IsRaisedTo rows n clock new) (sym is) raised))
     raised_more name (y, direct, (Lost copy, at_y, is)) raised = absurd (comparable.losses_free y copy at_y (suc end) direct.link)
 
   -- with the step itself it is the clock of the step

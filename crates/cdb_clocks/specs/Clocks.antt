@@ -20,11 +20,10 @@ pub record CountsLed (history : List Event) (at q n : ℕ) : Type 0 where
 abbrev pub IsClock : List Event → ℕ → List ℕ → Type 0
 IsClock history at clock = (q : ℕ) → CountsLed history at q (count_of clock q)
 
--- there is a clock of each step, by its position
-abbrev pub AreClocks : List Event → List (List ℕ) → Type 0
-AreClocks history clocks =
-    (at p k : ℕ) (kind : Kind) → nth history at ≡ Some (Step p k kind)
-    → (clock : List ℕ) × (nth clocks at ≡ Some clock) × IsClock history at clock
+-- the clock of each step, by its name
+abbrev pub AreClocks : List Event → (ℕ → ℕ → List ℕ) → Type 0
+AreClocks history clock =
+    (at p k : ℕ) (kind : Kind) → nth history at ≡ Some (Step p k kind) → IsClock history at (clock p k)
 
 -- the one clock is at most the other in every place
 abbrev pub IsUpTo : List ℕ → List ℕ → Type 0

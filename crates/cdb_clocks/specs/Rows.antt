@@ -1,9 +1,10 @@
 -- The clocks of the steps so far, a row for each process.
-use Rattle.std.specs.Prelude.{◌≡◌, ◌⊎◌, ℕ, suc, ◌≤◌, max, List, length, Option, None, Some, slice_get, filter, take}
+use Rattle.std.specs.Prelude.{◌≡◌, ◌⊎◌, ℕ, suc, ◌≤◌, max, List, length, Some, slice_get, filter, take}
+use Rattle.std.specs.Prelude.{replicate, unwrap_or}
 use Rattle.cdb_base.specs.Event.{is_step_of}
 use Rattle.cdb_base.specs.Positions.{nth}
 use Rattle.cdb_base.specs.declared.event.Event.{Event}
-use Rattle.cdb_base.specs.declared.event.Event.TheVariants.{Step, Lost}
+use Rattle.cdb_base.specs.declared.event.Event.TheVariants.{Step}
 use Rattle.cdb_base.specs.declared.event.Kind.{Kind}
 use Rattle.cdb_base.specs.declared.name.StepId.{StepId}
 use Rattle.cdb_base.specs.declared.name.StepId.TheVariants as named
@@ -15,18 +16,18 @@ use Rattle.cdb_standing.specs.Cuts.{cut_of as count_of}
 use Rattle.cdb_standing.specs.Moves.{HasStep}
 use Rattle.cdb_standing.specs.Tables.{row_of}
 
--- the clock of the step of that name
-abbrev pub clock_named : List (List (List ℕ)) → StepId → Option (List ℕ)
-clock_named rows (named.Step step) = nth (row_of rows step.p) step.k
-clock_named rows (named.Lost copy) = None
+-- the clock of the k-th step of process p; that of nothing, where the rows have none
+abbrev pub clock_in : List (List (List ℕ)) → ℕ → ℕ → List ℕ
+clock_in rows p k = unwrap_or (nth (row_of rows p) k) (replicate 9 0)
 
 -- each number is the greater one of both
 abbrev pub IsRaisedBy : List ℕ → List ℕ → List ℕ → Type 0
 IsRaisedBy other old new = (q : ℕ) → count_of new q ≡ max (count_of old q) (count_of other q)
 
-abbrev pub IsRaised : Option (List ℕ) → List ℕ → List ℕ → Type 0
-IsRaised None old new = new ≡ old
-IsRaised (Some other) old new = IsRaisedBy other old new
+-- that of the clock of the step of that name; a loss has none
+abbrev pub IsRaisedTo : List (List (List ℕ)) → StepId → List ℕ → List ℕ → Type 0
+IsRaisedTo rows (named.Step step) old new = IsRaisedBy (clock_in rows step.p step.k) old new
+IsRaisedTo rows (named.Lost copy) old new = new ≡ old
 
 -- the rows have the clocks of the steps at positions up to one, each in the row of its process, at its number
 pub record AreKept (history : List Event) (end : ℕ) (rows : List (List (List ℕ))) : Type 0 where
@@ -43,13 +44,7 @@ pub record HasLedOf (history : List Event) (at : ℕ) (names : List StepId) (clo
       → HasLedTo depends history cause other → l ≤ count_of clock q
   pub last : (q : ℕ) → (count_of clock q ≡ 0) ⊎ HasStep history q (count_of clock q)
 
--- where the event stands behind a position up to which the rows have the clocks, they have its own too, and this is
--- it, if it is a step
-abbrev pub IsClockIfStep : List Event → ℕ → Event → List ℕ → Type 0
-IsClockIfStep history at (Step p k kind) clock = IsClock history at clock
-IsClockIfStep history at (Lost copy) clock = Unit {0}
-
-abbrev pub GivesNext : List Event → Event → List (List (List ℕ)) → List (List (List ℕ)) → List ℕ → Type 0
-GivesNext history event old new clock =
-    (end : ℕ) → nth history (suc end) ≡ Some event → AreKept history end old
-    → AreKept history (suc end) new × IsClockIfStep history (suc end) event clock
+-- where the event stands behind a position up to which the rows have the clocks, they have its own too
+abbrev pub AreKeptOn : List Event → Event → List (List (List ℕ)) → List (List (List ℕ)) → Type 0
+AreKeptOn history event old new =
+    (end : ℕ) → nth history (suc end) ≡ Some event → AreKept history end old → AreKept history (suc end) new

@@ -1,7 +1,7 @@
 -- Clocks as text, as ShiViz reads it.
-use Rattle.std.specs.Prelude.{◌≡◌, ℕ, zero, suc, Bool, true, false, List, [], ◌∷◌, ◌++◌}
-use Rattle.std.specs.Prelude.{codes, decimal, length, Option, None, Some, unwrap_or}
-use Rattle.std.specs.List.{flat_map, range_with_len}
+use Rattle.std.specs.Prelude.{◌≡◌, ℕ, zero, suc, Bool, true, false, List, [], ◌∷◌, ◌++◌, codes, decimal, length, Some}
+use Rattle.std.specs.Prelude.{Option, flat_map}
+use Rattle.std.specs.List.{range_with_len}
 use Rattle.cdb_base.specs.Positions.{nth}
 use Rattle.cdb_base.specs.declared.event.Event.{Event}
 use Rattle.cdb_base.specs.declared.event.Event.TheVariants.{Step, Lost}
@@ -34,25 +34,24 @@ abbrev pub clock_text : ℕ → List ℕ → List ℕ
 clock_text p clock = codes "p" ++ decimal p ++ codes " {" ++ entries_text 1 true clock ++ codes "}\n"
 
 -- of a step, at a position, its clock and then its line, as an explanation has it; of a loss nothing
-abbrev pub lines_of : (Parts → Rules) → RunView → ℕ → List ℕ → Option Event → List ℕ
-lines_of rules run at clock None = []
-lines_of rules run at clock (Some (Step p k kind)) = clock_text p clock ++ line_at rules Shown run at
-lines_of rules run at clock (Some (Lost copy)) = []
+abbrev pub lines_of : (Parts → Rules) → RunView → (ℕ → ℕ → List ℕ) → ℕ → Option Event → List ℕ
+lines_of rules run clock at (Some (Step p k kind)) = clock_text p (clock p k) ++ line_at rules Shown run at
+lines_of rules run clock at other = []
 
-abbrev pub lines_at : (Parts → Rules) → RunView → List (List ℕ) → ℕ → List ℕ
-lines_at rules run clocks at = lines_of rules run at (unwrap_or (nth clocks at) []) (nth run.history at)
+abbrev pub lines_at : (Parts → Rules) → RunView → (ℕ → ℕ → List ℕ) → ℕ → List ℕ
+lines_at rules run clock at = lines_of rules run clock at (nth run.history at)
 
 -- the lines of the first events
-abbrev pub first_lines : (Parts → Rules) → RunView → List (List ℕ) → ℕ → List ℕ
-first_lines rules run clocks count = flat_map (lines_at rules run clocks) (range_with_len 1 count)
+abbrev pub first_lines : (Parts → Rules) → RunView → (ℕ → ℕ → List ℕ) → ℕ → List ℕ
+first_lines rules run clock count = flat_map (lines_at rules run clock) (range_with_len 1 count)
 
 -- the text is that of each step of the run, in order, with its clock
 abbrev pub IsClocksText : (Parts → Rules) → RunView → List ℕ → Type 0
 IsClocksText rules run text =
-    (clocks : List (List ℕ)) × AreClocks run.history clocks × (text ≡ first_lines rules run clocks (length run.history))
+    (clock : ℕ → ℕ → List ℕ) × AreClocks run.history clock × (text ≡ first_lines rules run clock (length run.history))
 
 -- the lines of an event that did that, where the run stands so after it
-abbrev pub step_text : (Parts → Rules) → RunView → Deed → List ℕ → Event → List ℕ
+abbrev pub step_text : (Parts → Rules) → RunView → Deed → (ℕ → ℕ → List ℕ) → Event → List ℕ
 step_text rules after did clock (Step p k kind) =
-    clock_text p clock ++ line_text rules Shown after did after (Step p k kind)
+    clock_text p (clock p k) ++ line_text rules Shown after did after (Step p k kind)
 step_text rules after did clock (Lost copy) = []

@@ -7,7 +7,7 @@ ghost use Rattle.cdb_base.specs.declared.event.Event.TheVariants.{Step};
 ghost use Rattle.cdb_base.specs.declared.event.Kind.{Kind};
 ghost use Rattle.cdb_base.specs.declared.name.StepId.TheVariants as named;
 ghost use Rattle.cdb_clocks.specs.Clocks.{AreClocks, IsClock};
-ghost use Rattle.cdb_clocks.specs.Rows.{clock_named, AreKept, GivesNext, IsRaised, IsRaisedBy};
+ghost use Rattle.cdb_clocks.specs.Rows.{clock_in, AreKept, AreKeptOn, IsRaisedBy, IsRaisedTo};
 ghost use Rattle.cdb_same.specs.Comparisons.{AreNumberedUpTo, IsComparable};
 ghost use Rattle.cdb_standing.specs.Moves.{IsStandingName};
 ghost use Rattle.cdb_standing.specs.Tables.{rows_in};
@@ -32,15 +32,13 @@ fn raise(clock: &mut Clock, other: &Clock)
     }
 }
 
-/// Raises a clock to that of a step, where one of that name has come.
+/// Raises a clock to that of a step, where the name is that of one.
 fn raise_to(clock: &mut Clock, rows: &Vec<Vec<Clock>>, name: &StepId)
     requires { length rows.now.items ≡ 9 }
-    ensures { IsRaised (clock_named (rows_in rows.now.items) name.now) clock.old clock.new }
+    ensures { IsRaisedTo (rows_in rows.now.items) name.now clock.old clock.new }
 {
     if let StepId::Step(step) = name {
-        if let Some(other) = clock_at(rows, step.p, step.k) {
-            raise(clock, &other);
-        }
+        raise(clock, &clock_at(rows, step.p, step.k));
     }
 }
 
@@ -62,42 +60,40 @@ fn next_clock(alloc: Global, history: &History, rows: &Vec<Vec<Clock>>, p: Proc,
     clock
 }
 
-/// Adds the clock of the next event, if it is a step, and returns it; that of a loss has nothing.
+/// Adds the clock of the next event, if it is a step.
 fn add_next(
     alloc: Global,
     history: &History,
     rows: &mut Vec<Vec<Clock>>,
     event: &Event,
-) -> Result<Clock, NoMemory>
+) -> Result<(), NoMemory>
     requires comparable { IsComparable history.now }
     requires numbered { AreNumberedUpTo history.now 9 }
     requires stands { IsStandingName history.now (event_name event.now) }
     requires rows { length rows.old.items ≡ 9 }
-    ensures next { IfOk result (GivesNext history.now event.now (rows_in rows.old.items) (rows_in rows.new.items)) }
+    ensures next { OnOk result (AreKeptOn history.now event.now (rows_in rows.old.items) (rows_in rows.new.items)) }
     ensures rows { OnOk result (length rows.new.items ≡ 9) }
 {
     match *event {
         Event::Step { p, k, .. } => {
             let clock = next_clock(alloc, history, rows, p, k);
-            add_clock(rows, p, clock)?;
-            Ok(clock)
+            add_clock(rows, p, clock)
         }
-        Event::Lost(_) => Ok([0; 9]),
+        Event::Lost(_) => Ok(()),
     }
 }
 
-/// The clocks of the events of a history, each by those of its direct causes; that of a loss has nothing.
-pub(crate) fn clocks_of(alloc: Global, history: &History) -> Result<Vec<Clock>, NoMemory>
+/// The clocks of the steps of a history in rows, each by those of its direct causes.
+pub(crate) fn clocks_of(alloc: Global, history: &History) -> Result<Vec<Vec<Clock>>, NoMemory>
     requires { IsComparable history.now }
-    ensures clocks { IfOk result (λ clocks. AreClocks history.now clocks.items) }
-    ensures number { IfOk result (λ clocks. length clocks.items ≡ length history.now) }
+    ensures clocks { IfOk result (λ rows. AreClocks history.now (clock_in (rows_in rows.items))) }
+    ensures rows { IfOk result (λ rows. length rows.items ≡ 9) }
 {
     numbered(history);
     let events = history.to_vec(alloc)?;
     let mut rows = empty_rows(alloc)?;
-    let mut clocks = Vec::new(alloc);
     for event in events.as_slice() {
-        clocks.push(add_next(alloc, history, &mut rows, event)?)?;
+        add_next(alloc, history, &mut rows, event)?;
     }
-    Ok(clocks)
+    Ok(rows)
 }

@@ -1,7 +1,7 @@
 //! The clocks of the steps so far, a row for each process.
 
 ghost use Rattle.std.specs.Prelude.{◌≡◌, ℕ, [], length, IfOk, OnOk};
-ghost use Rattle.cdb_base.specs.Positions.{nth};
+ghost use Rattle.cdb_clocks.specs.Rows.{clock_in};
 ghost use Rattle.cdb_standing.specs.Tables.{rows_in, row_of, IsPutOn};
 
 use crate::clock::Clock;
@@ -20,15 +20,18 @@ pub(crate) fn empty_rows(alloc: Global) -> Result<Vec<Vec<Clock>>, NoMemory>
     Ok(rows)
 }
 
-/// The clock of the `k`-th step of process `p`.
-pub(crate) fn clock_at(rows: &Vec<Vec<Clock>>, p: Proc, k: u16) -> Option<Clock>
+/// The clock of the `k`-th step of process `p`; that of nothing, where the rows have none.
+pub(crate) fn clock_at(rows: &Vec<Vec<Clock>>, p: Proc, k: u16) -> Clock
     requires { length rows.now.items ≡ 9 }
-    ensures { result ≡ nth (row_of (rows_in rows.now.items) p) k }
+    ensures { result ≡ clock_in (rows_in rows.now.items) p k }
 {
     if k == 0 {
-        return None;
+        return [0; 9];
     }
-    rows[p.index()].get(k as usize - 1).copied()
+    rows[p.index()]
+        .get(k as usize - 1)
+        .copied()
+        .unwrap_or([0; 9])
 }
 
 /// Adds the clock of the next step of process `p`.

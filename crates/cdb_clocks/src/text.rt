@@ -1,13 +1,16 @@
 //! The text of clocks: of each step its clock, and then what it did.
 
 ghost use Rattle.std.specs.Prelude.{◌≡◌, ◌≤◌, ◌++◌, Bool, suc, IfOk, length};
+ghost use Rattle.cdb_clocks.specs.Rows.{clock_in};
 ghost use Rattle.cdb_clocks.specs.Clocks.{AreClocks};
 ghost use Rattle.cdb_clocks.specs.Texts.{clock_text, comma_text, entries_text, entry_text};
 ghost use Rattle.cdb_clocks.specs.Texts.{first_lines, step_text, IsClocksText};
 ghost use Rattle.cdb_rules.specs.ByRules.{IsInOrder};
+ghost use Rattle.cdb_standing.specs.Tables.{rows_in};
 ghost use Rattle.cdb_text.specs.Pushes.{Pushes};
 
 use crate::clock::{Clock, clocks_of};
+use crate::rows::clock_at;
 use cdb_base::{Event, NoMemory, Proc};
 use cdb_deeds::{Deed, HasDeeds, ReceivedNames};
 use cdb_explain::{Causes, fresh, next_deed, play_on, push_whole};
@@ -40,31 +43,34 @@ fn push_entries(text: &mut String, clock: &Clock) -> Result<(), AllocError>
     Ok(())
 }
 
-/// Adds the clock of a step of process `p`, as a line.
-fn push_clock(text: &mut String, p: Proc, clock: &Clock) -> Result<(), AllocError>
-    ensures { Pushes result text.old text.new (clock_text p clock.now) }
+/// Adds the clock of the `k`-th step of process `p`, as a line.
+fn push_clock(text: &mut String, rows: &Vec<Vec<Clock>>, p: Proc, k: u16) -> Result<(), AllocError>
+    requires { length rows.now.items ≡ 9 }
+    ensures { Pushes result text.old text.new (clock_text p (clock_in (rows_in rows.now.items) p k)) }
 {
+    let clock = clock_at(rows, p, k);
     let p = p.number();
     write!(text, "p{p} {{")?;
-    push_entries(text, clock)?;
+    push_entries(text, &clock)?;
     text.push_str("}\n")
 }
 
-/// Adds the lines of the last event of a run, which did that, if it is a step.
+/// Adds the lines of the last event of a run, which did that, if it is a step, with its clock of these rows.
 fn push_step<T: Runs>(
     alloc: Global,
     text: &mut String,
     deed: &Deed,
     run: &T,
     event: &Event,
-    clock: &Clock,
+    rows: &Vec<Vec<Clock>>,
 ) -> Result<(), AllocError>
+    requires { length rows.now.items ≡ 9 }
     ensures { Pushes result text.old text.new
-        (step_text T.rules (T.run run.now) deed.now clock.now event.now) }
+        (step_text T.rules (T.run run.now) deed.now (clock_in (rows_in rows.now.items)) event.now) }
 {
     match event {
-        Event::Step { p, .. } => {
-            push_clock(text, *p, clock)?;
+        Event::Step { p, k, .. } => {
+            push_clock(text, rows, *p, *k)?;
             push_whole(alloc, text, Causes::Shown, deed, run, event)?;
             text.push_str("\n")
         }
@@ -77,11 +83,12 @@ fn push_lines<T: HasDeeds>(
     alloc: Global,
     text: &mut String,
     run: &Trace,
-    clocks: &[Clock],
+    rows: &Vec<Vec<Clock>>,
 ) -> Result<(), NoMemory>
     requires valid { IsInOrder T.rules run.now }
-    requires a_clock_each { length clocks.now ≡ length run.now.history }
-    ensures { Pushes result text.old text.new (first_lines T.rules run.now clocks.now (length run.now.history)) }
+    requires rows { length rows.now.items ≡ 9 }
+    ensures { Pushes result text.old text.new
+        (first_lines T.rules run.now (clock_in (rows_in rows.now.items)) (length run.now.history)) }
 {
     let mut again = fresh::<T>(alloc, run)?;
     let mut names = ReceivedNames::none(alloc)?;
@@ -89,7 +96,7 @@ fn push_lines<T: HasDeeds>(
     for i in 0..events.len() {
         let deed = next_deed(alloc, &again, &names, run, i)?;
         play_on(alloc, &mut again, &mut names, run, i)?;
-        push_step(alloc, text, &deed, &again, &events[i], &clocks[i])?;
+        push_step(alloc, text, &deed, &again, &events[i], rows)?;
     }
     Ok(())
 }
@@ -105,8 +112,8 @@ pub fn clocks<T: HasDeeds>(alloc: Global, run: &Trace) -> Result<Vec<u8>, NoMemo
     ensures { IfOk result (λ text. IsClocksText T.rules run.now text.items) }
 {
     let history = history_of::<T>(alloc, run)?;
-    let clocks = clocks_of(alloc, &history)?;
+    let rows = clocks_of(alloc, &history)?;
     let mut text = String::new(alloc);
-    push_lines::<T>(alloc, &mut text, run, clocks.as_slice())?;
+    push_lines::<T>(alloc, &mut text, run, &rows)?;
     Ok(text.into_bytes())
 }

@@ -1,5 +1,4 @@
-use Rattle.std.proofs.Common.{◌≡◌, suc, List, take, refl, arith}
-use Rattle.std.proofs.lemmas.List.{take_all}
+use Rattle.std.proofs.Common.{◌≡◌, suc, List, take, refl, arith, take_all}
 use Rattle.cdb_base.specs.declared.event.Event.TheVariants.{Step}
 use Rattle.cdb_base.specs.declared.name.StepId.{StepId}
 use Rattle.cdb_causal.specs.DirectCauses.{AreDirectCauses}
