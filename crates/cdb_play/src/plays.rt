@@ -61,26 +61,7 @@ fn perform_each<T: Runs, W: Sink>(
     Ok(())
 }
 
-/// Carries the commands out as `perform_each` does, on a run of the setup.
-fn perform_all<T: Runs, W: Sink>(
-    alloc: Global,
-    setup: Setup,
-    commands: &[Command],
-    buffer: &mut Buffer,
-    out: &mut W,
-) -> Result<(), OutputFault>
-    requires { length commands.now < MAX_ENTRIES }
-    ensures { Puts W.stream result out.old buffer.old out.new buffer.new
-        (transcript (T.rules setup) setup commands.now) }
-{
-    let mut control = open_for::<T>(alloc, setup, commands.len() as u32)?;
-    let mut text = String::new(alloc);
-    let performed = perform_each(alloc, &mut control, commands, &mut text, buffer, out);
-    control.close();
-    performed
-}
-
-/// Carries the commands out as `perform_all` does, and writes the transcript in pieces.
+/// Carries the commands out as `perform_each` does, on a run of the setup, and writes the transcript in pieces.
 fn write_transcript<T: Runs, W: Sink>(
     alloc: Global,
     setup: Setup,
@@ -92,7 +73,11 @@ fn write_transcript<T: Runs, W: Sink>(
         (Only (transcript (T.rules setup) setup commands.now)) }
 {
     let mut buffer = Buffer::new(alloc)?;
-    perform_all::<T, W>(alloc, setup, commands, &mut buffer, out)?;
+    let mut control = open_for::<T>(alloc, setup, commands.len() as u32)?;
+    let mut text = String::new(alloc);
+    let performed = perform_each(alloc, &mut control, commands, &mut text, &mut buffer, out);
+    control.close();
+    performed?;
     buffer.flush(out)?;
     Ok(())
 }

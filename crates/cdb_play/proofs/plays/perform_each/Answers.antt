@@ -1,5 +1,4 @@
-use Rattle.std.proofs.Common.{take, arith}
-use Rattle.std.proofs.lemmas.List.{take_all}
+use Rattle.std.proofs.Common.{take, arith, take_all}
 use Rattle.std.proofs.lemmas.Result.{err_from_is_err_and}
 use Rattle.cdb_streams.proofs.PiecesPut.{put_nothing, put_more, cut_short}
 use Rattle.cdb_play.proofs.Items.{parted_at, taken_at}

@@ -42,29 +42,26 @@ returns-in_err-write_text g c =
       passes = λ all. tt;
     })
 
-pub returns-clause-wrote : goal.returns-clause-wrote
-returns-clause-wrote g c =
+pub returns : goal.returns
+returns g c =
     let same : c.as_bytes.result.now ≡ string_bytes c.in_ok-text.text = search rules in
     let made = rw c.in_ok-text.was at c.text_with-made.ensures in
-    only_as g.W.Sink.stream Complete _ _ _ (IsTextOfCommands g.T.Runs.rules c.args.setup c.args.turns c.args.scripts.now)
-    (text_of_race c.deref.ensures.value (c.from-processes.ensures ∙ c.n.ensures.value) c.in_ok-raced.ensures.raced)
-    (rw (same, made) at c.in_ok-write_text.ensures)
-
-pub returns-clause-agree : goal.returns-clause-agree
-returns-clause-agree g c = λ majority.
-    let same : c.as_bytes.result.now ≡ string_bytes c.in_ok-text.text = search rules in
-    let made = rw c.in_ok-text.was at c.text_with-made.ensures in
-    only_as g.W.Sink.stream Complete _ _ _ EndsInAgreement
-    (agrees g.T.Runs.rules g.T.Runs.same_state c.in_ok-raced.raced.control c.in_ok-raced.ensures.raced.setup_is c.in_ok-raced.ensures.headline _ majority)
-    (rw (same, made) at c.in_ok-write_text.ensures)
-
-pub returns-clause-proposed : goal.returns-clause-proposed
-returns-clause-proposed g c =
-    let same : c.as_bytes.result.now ≡ string_bytes c.in_ok-text.text = search rules in
-    let made = rw c.in_ok-text.was at c.text_with-made.ensures in
-    only_as g.W.Sink.stream Complete _ _ _ (EndsInProposed c.args.setup)
-    (proposes g.T.Runs.rules g.T.Runs.same_state c.in_ok-raced.raced.control c.in_ok-raced.ensures.raced.setup_is c.in_ok-raced.ensures.headline _)
-    (rw (same, made) at c.in_ok-write_text.ensures)
+    let wrote = rw (same, made) at c.in_ok-write_text.ensures in
+    let stream = g.W.Sink.stream in
+    let raced = c.in_ok-raced.ensures.raced in
+    record {
+      wrote =
+          only_as stream Complete _ _ _ (IsTextOfCommands g.T.Runs.rules c.args.setup c.args.turns c.args.scripts.now)
+          (text_of_race c.deref.ensures.value (c.from-processes.ensures ∙ c.n.ensures.value) raced) wrote;
+      agree = λ majority.
+          only_as stream Complete _ _ _ EndsInAgreement
+          (agrees g.T.Runs.rules g.T.Runs.same_state c.in_ok-raced.raced.control raced.setup_is c.in_ok-raced.ensures.headline _ majority) wrote;
+      proposed =
+          only_as stream Complete _ _ _ (EndsInProposed c.args.setup)
+          (proposes g.T.Runs.rules g.T.Runs.same_state c.in_ok-raced.raced.control raced.setup_is c.in_ok-raced.ensures.headline _) wrote;
+      fault = tt;
+      passes = λ all. tt;
+    }
 
 -- how many lists of replies there are
 pub slice_bounds-text_with-count : goal.slice_bounds-text_with-count
