@@ -1,7 +1,6 @@
 -- What is drawn of each event of a history.
-use Rattle.std.proofs.Common.{◌≡◌, ◌<◌, ◌+◌, ℕ, suc, List, [], ◌++◌, get_or, length, slice_get, Some, sym, ap, ◌∙◌, add-one}
+use Rattle.std.proofs.Common.{◌≡◌, ◌<◌, ◌+◌, ℕ, suc, List, [], ◌++◌, get_or, length, slice_get, Some, sym, ap, ◌∙◌, add-one, unwrap_or}
 use Rattle.std.specs.Option.{option_map_or}
-use Rattle.std.specs.Prelude.{unwrap_or}
 use Rattle.std.proofs.lemmas.Option.{slice_get-get_or}
 use Rattle.cdb_base.specs.declared.event.Event.{Event}
 use Rattle.cdb_base.specs.declared.name.MsgName.{MsgName}
@@ -16,10 +15,8 @@ use Rattle.cdb_rules.specs.RunView.{RunView}
 use Rattle.cdb_setup.specs.Parts.{Parts}
 use Rattle.cdb_draw.specs.Arrows.{arrow_at, event_arrow}
 use Rattle.cdb_draw.specs.EventMarks.{mark_at, mark_text, marked_text, written_text}
-use Rattle.cdb_draw.specs.Weights.{weight_at}
+use Rattle.cdb_draw.specs.Weights.{weight_at, Weight, Pale}
 use Rattle.cdb_draw.specs.declared.layout.Grid.{Grid}
-use Rattle.cdb_draw.specs.declared.weight.Weight.{Weight}
-use Rattle.cdb_draw.specs.declared.weight.Weight.TheVariants.{Pale}
 
 weight_of : (weights : List Weight) (i : ℕ) → i < length weights → weight_at weights (suc i) ≡ get_or weights i Pale
 weight_of weights i within = ap (λ o. unwrap_or o Pale) (slice_get-get_or weights i Pale within)

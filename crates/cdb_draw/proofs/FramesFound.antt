@@ -1,8 +1,7 @@
 -- The frame after the next command of a script.
-use Rattle.std.proofs.Common.{◌≡◌, ◌∙◌, ℕ, suc, ◌+◌, ◌-◌, ◌<◌, ◌≤◌, Bool, List, [], ◌∷◌, ◌++◌, Option, Some, None}
+use Rattle.std.proofs.Common.{◌≡◌, ◌∙◌, ℕ, suc, ◌+◌, ◌-◌, ◌<◌, ◌≤◌, Bool, List, [], ◌∷◌, ◌++◌, Option, Some, None, option_map}
 use Rattle.std.proofs.Common.{get_or, length, map, max, fold, slice_get, take, refl, sym, ap, subst, arith}
 use Rattle.std.specs.List.{All, AllByRecursion, flat_map, range_with_len}
-use Rattle.std.specs.Prelude.{option_map}
 use Rattle.std.proofs.lemmas.List.{take_more}
 use Rattle.std.proofs.lemmas.List.Elements.{All-weaker, recursion_from_All}
 use Rattle.std.proofs.lemmas.Option.{slice_get-get_or, slice_get-map}
@@ -15,13 +14,11 @@ use Rattle.cdb_explain.specs.RunLeft.{run_of}
 use Rattle.cdb_rules.specs.RunView.{RunView}
 use Rattle.cdb_rules.specs.Rules.{Rules}
 use Rattle.cdb_setup.specs.Parts.{Parts}
-use Rattle.cdb_draw.specs.Frames.{events_at, frame_at, frame_by, frame_text, frame_weights, IsFrameOf, room_of, took_by}
-use Rattle.cdb_draw.specs.Layout.{grid_of}
+use Rattle.cdb_draw.specs.Frames.{events_at, frame_at, frame_by, frame_text, frame_weights, IsFrameOf, room_of, took_by, Frame}
+use Rattle.cdb_draw.specs.Layout.{grid_of, Grid}
 use Rattle.cdb_draw.specs.Picture.{picture_text}
-use Rattle.cdb_draw.specs.declared.layout.Grid.{Grid}
 use Rattle.cdb_draw.specs.Limits.{MOST_DRAWN}
 use Rattle.cdb_draw.specs.declared.weight.Weight.{Weight}
-use Rattle.cdb_draw.specs.declared.frames.Frame.{Frame}
 use Rattle.cdb_any_run.proofs.OpenCopies.{flat_map-more}
 
 -- a command that left the run as it was has no frame

@@ -1,16 +1,11 @@
 -- No arrow touches a mark that is not one of its ends.
-use Rattle.std.proofs.Common.{◌≡◌, ◌≢◌, ◌⊎◌, inl, inr, ℕ, ◌+◌, ◌-◌, ◌*◌, ◌/◌, ◌%◌, ◌<◌, ◌≤◌, Bool}
-use Rattle.std.proofs.Common.{true, false, if◌then◌else◌, nat_eq, List, refl, ap, arith}
+use Rattle.std.proofs.Common.{◌≡◌, ◌≢◌, ◌⊎◌, inl, inr, ℕ, ◌+◌, ◌-◌, ◌*◌, ◌/◌, ◌%◌, ◌<◌, ◌≤◌, Bool, true, false, if◌then◌else◌, nat_eq, List, refl, ap, arith}
 use Rattle.std.proofs.Math.Nat.{mul-le-mul_right, div-add-mod}
 use Rattle.std.proofs.lemmas.Bool.Decides.{nat_tests}
 use Rattle.std.proofs.lemmas.Grind.{common_steps}
 use Rattle.cdb_draw.specs.Apart.{ArrowsKeepOff, IsOff, IsOneOf, IsWayOff}
-use Rattle.cdb_draw.specs.Layout.{columns_for, lane_y, row_of, spot, x_of}
-use Rattle.cdb_draw.specs.Ways.{coming, leaving, passing, side_of, way_of}
-use Rattle.cdb_draw.specs.declared.layout.Grid.{Grid}
-use Rattle.cdb_draw.specs.declared.layout.Point.{Point}
-use Rattle.cdb_draw.specs.declared.way.Side.{Side}
-use Rattle.cdb_draw.specs.declared.way.Side.TheVariants.{Below, Above, Own}
+use Rattle.cdb_draw.specs.Layout.{columns_for, lane_y, row_of, spot, x_of, Grid, Point}
+use Rattle.cdb_draw.specs.Ways.{coming, leaving, passing, side_of, way_of, Side, Below, Above, Own}
 
 -- one row is above another
 over : (high r t : ℕ) → r < t → r * high + high ≤ t * high
@@ -71,6 +66,12 @@ Suits Own s p = s ≡ p
 suits : (s p : ℕ) → Suits (side_of s p) s p
 suits s p = grind (arith, common_steps, nat_tests)
 
+-- the first and the last bend are steep
+near : (side : Side) (y : ℕ) → 22 ≤ y → (y ≤ leaving side y + 22) × (leaving side y ≤ y + 44) × (y ≤ coming side y + 22) × (coming side y ≤ y + 44)
+near Below y low = (omega arith, omega arith, omega arith, omega arith)
+near Above y low = (omega arith, omega arith, omega arith, omega arith)
+near Own y low = (omega arith, omega arith, omega arith, omega arith)
+
 -- The ways, where the mark is at position k on lane q.
 module _ (n high c r : ℕ) (tall : high ≡ 88 * n + 20) (k q : ℕ) (late : 1 ≤ k) (among : IsOneOf n q) where
   abbrev grid : Grid
@@ -90,12 +91,6 @@ module _ (n high c r : ℕ) (tall : high ≡ 88 * n + 20) (k q : ℕ) (late : 1 
       ((i - 1) % c) (s - 1) x y (omega arith) (place c k i late early other)
       left right low up
 
-  begins : (side : Side) (i s p : ℕ) → 1 ≤ i → k ≢ i → Suits side s p → IsOneOf n s → IsOneOf n p
-      → IsOff 8 here (spot grid i s) (record { x = x_of grid i + 26; y = leaving side (lane i s) })
-  begins Below i s p early other suit one two = steep_at i s _ _ early other one (omega arith) (omega arith) (omega arith) (omega arith)
-  begins Above i s p early other suit one two = steep_at i s _ _ early other one (omega arith) (omega arith) (omega arith) (omega arith)
-  begins Own i s p early other suit one two = steep_at i s _ _ early other one (omega arith) (omega arith) (omega arith) (omega arith)
-
   between_at : (i b x1 y1 x2 y2 : ℕ) → b + 1 ≤ n → lane i (b + 1) + 22 ≤ y1 → y1 ≤ lane i (b + 1) + 66 → lane i (b + 1) + 22 ≤ y2 → y2 ≤ lane i (b + 1) + 66
       → IsOff 8 here (record { x = x1; y = y1 }) (record { x = x2; y = y2 })
   between_at i b x1 y1 x2 y2 few low1 up1 low2 up2 =
@@ -108,12 +103,6 @@ module _ (n high c r : ℕ) (tall : high ≡ 88 * n + 20) (k q : ℕ) (late : 1 
   passes Above i s p x1 x2 suit one two = between_at i (s - 2) _ _ _ _ (omega arith) (omega arith) (omega arith) (omega arith) (omega arith)
   passes Own i s p x1 x2 suit one two = between_at i (s - 1) _ _ _ _ (omega arith) (omega arith) (omega arith) (omega arith) (omega arith)
 
-  ends : (side : Side) (j s p : ℕ) → 1 ≤ j → k ≢ j → Suits side s p → IsOneOf n s → IsOneOf n p
-      → IsOff 8 here (record { x = x_of grid j - 26; y = coming side (lane j p) }) (spot grid j p)
-  ends Below j s p early other suit one two = swapped (steep_at j p _ _ early other two (omega arith) (omega arith) (omega arith) (omega arith))
-  ends Above j s p early other suit one two = swapped (steep_at j p _ _ early other two (omega arith) (omega arith) (omega arith) (omega arith))
-  ends Own j s p early other suit one two = swapped (steep_at j p _ _ early other two (omega arith) (omega arith) (omega arith) (omega arith))
-
   one_of_two : (b : Bool) (first second : List (List Point)) → IsWayOff 8 here first → IsWayOff 8 here second → IsWayOff 8 here (if b then first else second)
   one_of_two true first second a b = a
   one_of_two false first second a b = b
@@ -122,9 +111,11 @@ module _ (n high c r : ℕ) (tall : high ≡ 88 * n + 20) (k q : ℕ) (late : 1 
   keeps_off i s j p early later one other from to =
       let side = side_of s p in
       let suit : Suits side s p = suits s p in
-      let begin = begins side i s p early one suit from to in
+      let leave = near side (lane i s) (omega arith) in
+      let begin = steep_at i s (x_of grid i + 26) (leaving side (lane i s)) early one from (omega arith) (omega arith) leave.0 leave.1 in
       let up = upright ((k - 1) % c) ((j - 1) % c) here.y in
-      let end = ends side j s p later other suit from to in
+      let come = near side (lane j p) (omega arith) in
+      let end = swapped (steep_at j p (x_of grid j - 26) (coming side (lane j p)) later other to (omega arith) (omega arith) come.2 come.3) in
       one_of_two (nat_eq (row_of grid i) (row_of grid j)) _ _ ((begin, (passes side i s p _ _ suit from to, (up _ _, (end, tt)))), tt)
       ((begin, (passes side i s p _ _ suit from to, tt)), ((passes side j s p _ _ suit from to, (up _ _, (end, tt))), tt))
 

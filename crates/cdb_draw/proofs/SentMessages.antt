@@ -1,20 +1,16 @@
 -- The table of places, when the history grows.
 use Rattle.std.proofs.Common.{◌≡◌, ℕ, suc, ◌+◌, ◌<◌, Bool, true, false, List, [], ◌∷◌, ◌++◌, length, get_or, take, Option}
-use Rattle.std.proofs.Common.{Some, None, Result, Ok, Err, OnOk, cond, nat_eq, option_map, refl, sym, ap, subst, ◌∙◌, arith}
+use Rattle.std.proofs.Common.{Some, None, Result, Ok, Err, OnOk, cond, nat_eq, option_map, refl, sym, ap, subst, ◌∙◌, arith, position, length-take-le}
 use Rattle.std.specs.HashMap.{HashMap, get}
 use Rattle.std.specs.List.{position_from}
-use Rattle.std.specs.Prelude.{position}
 use Rattle.std.proofs.lemmas.Bool.Decides.{nat_tests}
 use Rattle.std.proofs.lemmas.Iterator.Adapters.{position_from-zero}
-use Rattle.std.proofs.lemmas.List.{length-take-le}
 use Rattle.cdb_base.specs.declared.event.Event.{Event}
 use Rattle.std.specs.Option.{option_map_or}
 use Rattle.cdb_rules.proofs.Beginnings.{one_more}
 use Rattle.cdb_rules.proofs.Flagged.{item_at}
-use Rattle.cdb_draw.specs.Positions.{does, same_transit, transit_of}
+use Rattle.cdb_draw.specs.Positions.{does, same_transit, transit_of, Transit, Sent, Taken}
 use Rattle.cdb_draw.specs.Sends.{ArePlaces, Fits, HasNoted, kept_or_noted, transit_code}
-use Rattle.cdb_draw.specs.declared.sends.Transit.{Transit}
-use Rattle.cdb_draw.specs.declared.sends.Transit.TheVariants.{Sent, Taken}
 
 -- ---- the first position at which a test holds
 

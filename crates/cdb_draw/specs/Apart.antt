@@ -2,9 +2,8 @@
 use Rattle.std.specs.Prelude.{◌≡◌, ◌≢◌, ◌⊎◌, ℕ, ◌+◌, ◌≤◌, List, [], ◌∷◌}
 use Rattle.cdb_setup.specs.Parts.{Parts}
 use Rattle.cdb_setup.specs.declared.setup.Algorithm.TheVariants.{Leader}
-use Rattle.cdb_draw.specs.Layout.{grid_of, spot}
+use Rattle.cdb_draw.specs.Layout.{grid_of, spot, Point}
 use Rattle.cdb_draw.specs.Ways.{way_of}
-use Rattle.cdb_draw.specs.declared.layout.Point.{Point}
 
 -- a point keeps so far from a line between two others, since both of these are so far to its right, to its left, below
 -- it, or above it

@@ -12,26 +12,21 @@ use Rattle.cdb_base.specs.declared.name.MsgName.{MsgName}
 use Rattle.cdb_base.specs.declared.register.Reg.{Reg}
 use Rattle.cdb_base.specs.declared.register.Reg.TheVariants.{R, Dec}
 use Rattle.cdb_message.specs.Mail.{message_name}
-use Rattle.cdb_draw.specs.Layout.{lane_y, register_y, row_of, spot, x_of}
-use Rattle.cdb_draw.specs.Positions.{passed_at}
-use Rattle.cdb_draw.specs.Weights.{weight_at, weight_text}
-use Rattle.cdb_draw.specs.Ways.{point_text, way_of, way_parts}
-use Rattle.cdb_draw.specs.declared.layout.Grid.{Grid}
-use Rattle.cdb_draw.specs.declared.layout.Point.{Point}
-use Rattle.cdb_draw.specs.declared.sends.Transit.TheVariants.{Sent, Taken}
-use Rattle.cdb_draw.specs.declared.weight.Weight.{Weight}
+use Rattle.cdb_draw.specs.Layout.{lane_y, register_y, row_of, spot, x_of, Grid, Point}
+use Rattle.cdb_draw.specs.Positions.{passed_at, Sent, Taken}
+use Rattle.cdb_draw.specs.Weights.{weight_at, weight_text, Weight}
+use Rattle.cdb_draw.specs.Ways.{point_text, way_of, way_text}
 
--- an arrow of that class, along these strokes
-unfoldable pub arrow_text : List ℕ → Weight → List (List Point) → List ℕ
+-- an arrow of that class, along a way
+unfoldable pub arrow_text : List ℕ → Weight → List ℕ → List ℕ
 arrow_text class weight way =
-    concat
-    (codes "<path class='" ∷ class ∷ codes " " ∷ weight_text weight ∷ codes "' d='" ∷ way_parts way
-    ++ codes "'/>\n" ∷ [])
+    codes "<path class='" ++ class ++ codes " " ++ weight_text weight ++ codes "' d='" ++ way ++ codes "'/>\n"
 
 -- that of a copy, from the position where its message was sent to position j on the lane of process p
 abbrev pub copy_arrow : Grid → List Event → List ℕ → Weight → MsgName → ℕ → ℕ → List ℕ
 copy_arrow grid history class weight name j p =
-    option_map_or (λ i. arrow_text class weight (way_of grid i name.s j p)) (passed_at history (Sent name)) []
+    option_map_or (λ i. arrow_text class weight (way_text (way_of grid i name.s j p)))
+    (passed_at history (Sent name)) []
 
 -- straight down or up at that x
 abbrev pub upright : ℕ → ℕ → ℕ → List (List Point)
@@ -96,9 +91,9 @@ abbrev pub step_arrow : Grid → List Event → Weight → ℕ → ℕ → Kind 
 step_arrow grid history weight position p (Recv s m) =
     copy_arrow grid history (codes "copy") weight (message_name s m) position p
 step_arrow grid history weight position p (Read register) =
-    arrow_text (codes "read") weight (read_way grid position p register)
+    arrow_text (codes "read") weight (way_text (read_way grid position p register))
 step_arrow grid history weight position p (Write register) =
-    arrow_text (codes "write") weight (write_way grid position p register)
+    arrow_text (codes "write") weight (way_text (write_way grid position p register))
 step_arrow grid history weight position p (Send m) = on_way_text grid history weight position (message_name p m)
 step_arrow grid history weight position p kind = []
 

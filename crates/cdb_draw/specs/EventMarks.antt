@@ -17,9 +17,8 @@ use Rattle.cdb_base.specs.declared.register.Reg.{Reg}
 use Rattle.cdb_base.specs.NameTexts.{message_text, register_text, step_text}
 use Rattle.cdb_control.specs.Commands.{decides}
 use Rattle.cdb_deeds.specs.declared.deed.Deed.{Deed}
-use Rattle.cdb_deeds.specs.declared.deed.Deed.TheVariants.{Round, Votes, VotesNone}
-use Rattle.cdb_deeds.specs.declared.deed.Deed.TheVariants.{Settles, Adopts, Keeps, Learns}
-use Rattle.cdb_deeds.specs.declared.deed.Deed.TheVariants.{SettlesRegister, SettlesInput, GivesUp, Carries}
+use Rattle.cdb_deeds.specs.declared.deed.Deed.TheVariants.{Settles, Adopts, Keeps, Learns, Votes, VotesNone}
+use Rattle.cdb_deeds.specs.declared.deed.Deed.TheVariants.{SettlesRegister, SettlesInput, GivesUp, Carries, Round}
 use Rattle.cdb_explain.specs.Explanations.{deed_at, run_after, whole_text}
 use Rattle.cdb_explain.specs.declared.line.Causes.TheVariants.{Shown}
 use Rattle.cdb_message.specs.Mail.{MailState, message_name, payload_of}
@@ -29,11 +28,9 @@ use Rattle.cdb_rules.specs.Rules.{Rules}
 use Rattle.cdb_setup.specs.Parts.{Parts}
 use Rattle.cdb_text.specs.Reports.{value_text}
 use Rattle.cdb_draw.specs.Arrows.{register_spot}
-use Rattle.cdb_draw.specs.Layout.{spot}
+use Rattle.cdb_draw.specs.Layout.{spot, Grid}
 use Rattle.cdb_draw.specs.Ways.{point_text}
-use Rattle.cdb_draw.specs.Weights.{weight_at, weight_text}
-use Rattle.cdb_draw.specs.declared.layout.Grid.{Grid}
-use Rattle.cdb_draw.specs.declared.weight.Weight.{Weight}
+use Rattle.cdb_draw.specs.Weights.{weight_at, weight_text, Weight}
 
 -- what a step does, in a word, which names the shape of its mark too, and with what: the message or the register
 abbrev pub kind_texts : ℕ → Kind → List ℕ × List ℕ
@@ -48,22 +45,10 @@ kind_texts p Crash = (codes "crash", [])
 
 -- the shape of a mark, and the three rows above it: a step by its name and by what it does with what, a lost copy by
 -- its name
-
-abbrev pub shape_of : Event → List ℕ
-shape_of (Step p k kind) = (kind_texts p kind).0
-shape_of (Lost copy) = codes "lost"
-
-abbrev pub first_row : Event → List ℕ
-first_row (Step p k kind) = step_text p k
-first_row (Lost copy) = codes "lost"
-
-abbrev pub second_row : Event → List ℕ
-second_row (Step p k kind) = (kind_texts p kind).0
-second_row (Lost copy) = message_text (copy.msg).s (copy.msg).m
-
-abbrev pub third_row : Event → List ℕ
-third_row (Step p k kind) = (kind_texts p kind).1
-third_row (Lost copy) = codes "to " ++ decimal copy.to
+abbrev pub rows : Event → List ℕ × List ℕ × List ℕ × List ℕ
+rows (Step p k kind) = ((kind_texts p kind).0, step_text p k, (kind_texts p kind).0, (kind_texts p kind).1)
+rows (Lost copy) =
+    (codes "lost", codes "lost", message_text (copy.msg).s (copy.msg).m, codes "to " ++ decimal copy.to)
 
 -- ---- below it
 
@@ -91,33 +76,24 @@ deed_texts (GivesUp round register) = (codes "gives up", codes "round " ++ decim
 deed_texts (Carries round) = (codes "carries", codes "round " ++ decimal round)
 deed_texts did = ([], [])
 
--- the first row: the value, the leader, or what a step by itself did
-
-abbrev pub event_below : MailState → Deed → Event → List ℕ
-event_below mail did (Step p k (Query leader)) = codes "leader " ++ decimal leader
-event_below mail did (Step p k (Send m)) = carried_text (payload_of mail (message_name p m))
-event_below mail did (Step p k (Recv s m)) = carried_text (payload_of mail (message_name s m))
-event_below mail did (Step p k Local) = (deed_texts did).0
-event_below mail did (Step p k Learn) = (deed_texts did).0
-event_below mail did event = []
-
--- a decision has its value there, a ring round the mark, and `decides` above it
-
+-- the first row: the value of a decision, or else the value, the leader, or what a step by itself did
 abbrev pub below_text : Option ℕ → MailState → Deed → Event → List ℕ
-below_text None mail did event = event_below mail did event
 below_text (Some v) mail did event = decimal v
+below_text None mail did (Step p k (Query leader)) = codes "leader " ++ decimal leader
+below_text None mail did (Step p k (Send m)) = carried_text (payload_of mail (message_name p m))
+below_text None mail did (Step p k (Recv s m)) = carried_text (payload_of mail (message_name s m))
+below_text None mail did (Step p k Local) = (deed_texts did).0
+below_text None mail did (Step p k Learn) = (deed_texts did).0
+below_text None mail did event = []
 
--- where: from a read and a write an arrow runs straight down, so that the value stands beside it
-
-abbrev pub decision_place : Event → List ℕ
-decision_place (Step p k (Read register)) = codes "class='beside' x='3' y='33'"
-decision_place (Step p k (Write register)) = codes "class='beside' x='3' y='33'"
-decision_place event = codes "class='decision' y='22'"
-
+-- where: from a read and a write an arrow runs straight down, so that the value of a decision stands beside it
 abbrev pub below_place : Option ℕ → Event → List ℕ
 below_place None event = codes "class='value' y='22'"
-below_place (Some v) event = decision_place event
+below_place (Some v) (Step p k (Read register)) = codes "class='beside' x='3' y='33'"
+below_place (Some v) (Step p k (Write register)) = codes "class='beside' x='3' y='33'"
+below_place (Some v) event = codes "class='decision' y='22'"
 
+-- a decision has a ring round the mark too, and `decides` above it
 abbrev pub decided_text : Option ℕ → List ℕ
 decided_text None = []
 decided_text (Some v) = codes "<use href='#decided'/><text class='decision' y='-48'>decides</text>"
@@ -136,15 +112,11 @@ tick_text None = []
 tick_text (Some round) = codes "<path d='M-15,-5v10'/>"
 
 -- the second row: that round, or with what a step by itself did what it did
-
-abbrev pub event_note : Deed → Event → List ℕ
-event_note did (Step p k Local) = (deed_texts did).1
-event_note did (Step p k Learn) = (deed_texts did).1
-event_note did event = []
-
 abbrev pub note_text : Option ℕ → Deed → Event → List ℕ
-note_text None did event = event_note did event
 note_text (Some round) did event = codes "round " ++ decimal round
+note_text None did (Step p k Local) = (deed_texts did).1
+note_text None did (Step p k Learn) = (deed_texts did).1
+note_text None did event = []
 
 -- ---- the mark
 
@@ -158,12 +130,13 @@ unfoldable pub marked_text : (Parts → Rules) → Grid → Deed → RunView →
 marked_text rules grid did after weight position event whole =
     let decided = decides (rules after.setup) after.history event in
     let round = begun did in
+    let its = rows event in
     concat
     (codes "<g class='" ∷ weight_text weight ∷ codes "' transform='translate("
     ∷ point_text (spot grid position (lane_of event)) ∷ codes ")'><title>" ∷ whole
-    ∷ codes "</title>" ∷ decided_text decided ∷ tick_text round ∷ codes "<use href='#" ∷ shape_of event
-    ∷ codes "'/><text y='-37'>" ∷ first_row event ∷ codes "</text><text y='-26'>" ∷ second_row event
-    ∷ codes "</text><text y='-15'>" ∷ third_row event ∷ codes "</text><text " ∷ below_place decided event
+    ∷ codes "</title>" ∷ decided_text decided ∷ tick_text round ∷ codes "<use href='#" ∷ its.0
+    ∷ codes "'/><text y='-37'>" ∷ its.1 ∷ codes "</text><text y='-26'>" ∷ its.2
+    ∷ codes "</text><text y='-15'>" ∷ its.3 ∷ codes "</text><text " ∷ below_place decided event
     ∷ codes ">" ∷ below_text decided (mail_in rules after) did event ∷ codes "</text><text class='note' y='33'>"
     ∷ note_text round did event ∷ codes "</text></g>\n" ∷ [])
 

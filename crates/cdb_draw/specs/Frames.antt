@@ -21,7 +21,7 @@ use Rattle.cdb_streams.specs.declared.fault.PlayFault.TheVariants as play
 use Rattle.cdb_draw.specs.Drawn.{IsCrowded}
 use Rattle.cdb_draw.specs.Layout.{grid_of}
 use Rattle.cdb_draw.specs.Picture.{picture_text}
-use Rattle.cdb_draw.specs.declared.frames.Frame.{Frame}
+pub use Rattle.cdb_draw.specs.declared.frames.Frame.{Frame}
 use Rattle.cdb_draw.specs.Limits.{MOST_DRAWN}
 use Rattle.cdb_draw.specs.declared.weight.Weight.{Weight}
 use Rattle.cdb_draw.specs.declared.weight.Weight.TheVariants.{Full, Bold}

@@ -8,9 +8,8 @@ use Rattle.cdb_base.specs.declared.event.Event.{Event}
 use Rattle.cdb_rules.specs.RunView.{RunView}
 use Rattle.cdb_setup.specs.declared.setup.Algorithm.{Algorithm}
 use Rattle.cdb_setup.specs.declared.setup.Algorithm.TheVariants.{Leader, Alpha}
-use Rattle.cdb_draw.specs.Layout.{end_x, lane_y, register_y, row_of, start_x, x_of}
+use Rattle.cdb_draw.specs.Layout.{end_x, lane_y, register_y, row_of, start_x, x_of, Grid}
 use Rattle.cdb_draw.specs.Positions.{crashed_at}
-use Rattle.cdb_draw.specs.declared.layout.Grid.{Grid}
 
 -- a lane of that class, so far down: its name, what stands below the name, and its line
 unfoldable pub lane_text : List ℕ → ℕ → List ℕ → List ℕ → ℕ → List ℕ

@@ -5,8 +5,8 @@ use Rattle.cdb_base.specs.Limits.{MAX_ENTRIES}
 use Rattle.cdb_setup.specs.Parts.{Parts}
 use Rattle.cdb_setup.specs.declared.setup.Algorithm.{Algorithm}
 use Rattle.cdb_setup.specs.declared.setup.Algorithm.TheVariants.{Leader, Alpha}
-use Rattle.cdb_draw.specs.declared.layout.Grid.{Grid}
-use Rattle.cdb_draw.specs.declared.layout.Point.{Point}
+pub use Rattle.cdb_draw.specs.declared.layout.Grid.{Grid}
+pub use Rattle.cdb_draw.specs.declared.layout.Point.{Point}
 
 -- how far the lanes of two processes are apart: arrows between them take more room than those to registers
 abbrev pub lane_gap : Algorithm → ℕ

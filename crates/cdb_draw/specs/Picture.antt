@@ -12,10 +12,8 @@ use Rattle.cdb_draw.specs.declared.style.TheConstants.{NAMESPACE, SHAPES, STYLE}
 use Rattle.cdb_draw.specs.Arrows.{arrow_at}
 use Rattle.cdb_draw.specs.EventMarks.{mark_at}
 use Rattle.cdb_draw.specs.Lanes.{lanes_text}
-use Rattle.cdb_draw.specs.Layout.{grid_of, height, width}
-use Rattle.cdb_draw.specs.Weights.{AreWeighed}
-use Rattle.cdb_draw.specs.declared.layout.Grid.{Grid}
-use Rattle.cdb_draw.specs.declared.weight.Weight.{Weight}
+use Rattle.cdb_draw.specs.Layout.{grid_of, height, width, Grid}
+use Rattle.cdb_draw.specs.Weights.{AreWeighed, Weight}
 
 -- the algorithm, and the leader's quorum
 abbrev pub heading_text : Algorithm → ℕ → List ℕ

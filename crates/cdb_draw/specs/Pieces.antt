@@ -1,6 +1,5 @@
 -- The pieces of a picture's text.
-use Rattle.std.specs.Prelude.{ℕ, List, ◌++◌, codes, decimal}
-use Rattle.std.specs.List.{flat_map}
+use Rattle.std.specs.Prelude.{ℕ, List, ◌++◌, codes, decimal, flat_map}
 use Rattle.cdb_draw.specs.declared.piece.Piece.{Piece}
 use Rattle.cdb_draw.specs.declared.piece.Piece.TheVariants.{Text, Number, After, Between, At}
 

@@ -4,8 +4,8 @@ use Rattle.cdb_base.specs.declared.event.Event.{Event}
 use Rattle.cdb_base.specs.declared.event.Event.TheVariants.{Step, Lost}
 use Rattle.cdb_base.specs.declared.event.Kind.TheVariants.{Send, Recv, Crash}
 use Rattle.cdb_base.specs.declared.name.MsgName.{MsgName}
-use Rattle.cdb_draw.specs.declared.sends.Transit.{Transit}
-use Rattle.cdb_draw.specs.declared.sends.Transit.TheVariants.{Sent, Taken}
+pub use Rattle.cdb_draw.specs.declared.sends.Transit.{Transit}
+pub use Rattle.cdb_draw.specs.declared.sends.Transit.TheVariants.{Sent, Taken}
 use Rattle.cdb_message.specs.Mail.{message_name}
 use Rattle.std.specs.Option.{option_map_or}
 

@@ -4,9 +4,7 @@ use Rattle.std.specs.Prelude.{◌≡◌, ℕ, suc, ◌+◌, ◌*◌, ◌^◌, �
 use Rattle.std.specs.Prelude.{length, Option, None, Some, nat_eq, if◌then◌else◌}
 use Rattle.cdb_base.specs.declared.event.Event.{Event}
 use Rattle.cdb_base.specs.declared.name.MsgName.{MsgName}
-use Rattle.cdb_draw.specs.Positions.{passed_at}
-use Rattle.cdb_draw.specs.declared.sends.Transit.{Transit}
-use Rattle.cdb_draw.specs.declared.sends.Transit.TheVariants.{Sent, Taken}
+use Rattle.cdb_draw.specs.Positions.{passed_at, Transit, Sent, Taken}
 
 -- the numbers of names; that of a copy has its receiver in it, from 1
 abbrev pub message_code : MsgName → ℕ

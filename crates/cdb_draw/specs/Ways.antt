@@ -6,12 +6,10 @@
 -- height and end at another, so two that begin or end at different columns never lie on each other. Where the receive
 -- stands in another row, the arrow ends at the edge of the first row, and begins again at that of the other.
 use Rattle.std.specs.Prelude.{ℕ, ◌+◌, ◌-◌, List, [], ◌∷◌, ◌++◌, codes, decimal, nat_eq, nat_lt, if◌then◌else◌}
-use Rattle.std.specs.List.{flat_map}
-use Rattle.cdb_draw.specs.Layout.{end_x, lane_y, row_of, spot, start_x}
-use Rattle.cdb_draw.specs.declared.layout.Grid.{Grid}
-use Rattle.cdb_draw.specs.declared.layout.Point.{Point}
-use Rattle.cdb_draw.specs.declared.way.Side.{Side}
-use Rattle.cdb_draw.specs.declared.way.Side.TheVariants.{Below, Above, Own}
+use Rattle.std.specs.List.{concat, flat_map}
+use Rattle.cdb_draw.specs.Layout.{end_x, lane_y, row_of, spot, start_x, Grid, Point}
+pub use Rattle.cdb_draw.specs.declared.way.Side.{Side}
+pub use Rattle.cdb_draw.specs.declared.way.Side.TheVariants.{Below, Above, Own}
 
 -- on which side of the sender the receiver is
 abbrev pub side_of : ℕ → ℕ → Side
@@ -75,5 +73,5 @@ abbrev pub stroke_parts : List Point → List (List ℕ)
 stroke_parts [] = []
 stroke_parts (point ∷ points) = codes "M" ∷ point_text point ∷ flat_map line_parts points
 
-abbrev pub way_parts : List (List Point) → List (List ℕ)
-way_parts strokes = flat_map stroke_parts strokes
+abbrev pub way_text : List (List Point) → List ℕ
+way_text strokes = concat (flat_map stroke_parts strokes)

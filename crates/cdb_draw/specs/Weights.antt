@@ -6,8 +6,8 @@ use Rattle.cdb_rules.specs.Flags.{FlagsPast}
 use Rattle.cdb_rules.specs.RunView.{RunView}
 use Rattle.cdb_trail.specs.Trailed.{IsTrailIn}
 use Rattle.cdb_trail.specs.declared.trail.Trail.{Trail}
-use Rattle.cdb_draw.specs.declared.weight.Weight.{Weight}
-use Rattle.cdb_draw.specs.declared.weight.Weight.TheVariants.{Pale, Full, Bold}
+pub use Rattle.cdb_draw.specs.declared.weight.Weight.{Weight}
+pub use Rattle.cdb_draw.specs.declared.weight.Weight.TheVariants.{Pale, Full, Bold}
 
 -- the class in the style
 abbrev pub weight_text : Weight → List ℕ

@@ -6,7 +6,7 @@ ghost use Rattle.cdb_draw.specs.Arrows.{register_lane, register_spot, upright};
 ghost use Rattle.cdb_draw.specs.Layout.{end_x, IsGrid, IsOnPage};
 ghost use Rattle.cdb_draw.specs.Pieces.{pieces_text};
 ghost use Rattle.cdb_draw.specs.Sends.{ArePlaces};
-ghost use Rattle.cdb_draw.specs.Ways.{broken_way, whole_way};
+ghost use Rattle.cdb_draw.specs.Ways.{broken_way, way_text, whole_way};
 ghost use Rattle.cdb_text.specs.Pushes.{Pushes};
 
 use crate::layout::{Grid, Point, end_x, lane_y, register_y, row_of, spot, x_of};
@@ -20,60 +20,32 @@ use cdb_base::limits::MAX_ENTRIES;
 use cdb_base::{Event, Kind, MsgName, Proc, Reg};
 use std::alloc::AllocError;
 
-/// The arrow of a copy in one row.
-#[tactic(auto, unfolding(crate::specs::Arrows::arrow_text))]
-fn whole_arrow(
-    class: &'static str,
-    weight: Weight,
-    side: Side,
-    from: Point,
-    to: Point,
-) -> [Piece<'static>; 11]
+/// The way of the arrow of a copy in one row.
+fn whole_way(side: Side, from: Point, to: Point) -> [Piece<'static>; 5]
     requires from { IsOnPage from }
     requires to { IsOnPage to }
-    ensures { pieces_text result ≡ arrow_text class.now weight (whole_way side from to) }
+    ensures { pieces_text result ≡ way_text (whole_way side from to) }
 {
     let (near, before) = (from.x + 26, to.x - 26);
     [
-        Text("<path class='"),
-        Text(class),
-        Text(" "),
-        Text(weight.class()),
-        Text("' d='"),
         At("M", from.x, from.y),
         At("L", near, leaving(side, from.y)),
         At("L", before, passing(side, from.y)),
         At("L", before, coming(side, to.y)),
         At("L", to.x, to.y),
-        Text("'/>\n"),
     ]
 }
 
 /// That of a copy from one row to another, which begins again where the lane of the sender is there.
-#[tactic(auto, unfolding(crate::specs::Arrows::arrow_text))]
-fn broken_arrow(
-    class: &'static str,
-    weight: Weight,
-    side: Side,
-    edge: usize,
-    from: Point,
-    lane: usize,
-    to: Point,
-) -> [Piece<'static>; 13]
+fn broken_way(side: Side, edge: usize, from: Point, lane: usize, to: Point) -> [Piece<'static>; 7]
     requires from { IsOnPage from }
     requires lane { 80 ≤ lane }
     requires within { lane ≤ 820_001_000 }
     requires to { IsOnPage to }
-    ensures { pieces_text result
-        ≡ arrow_text class.now weight (broken_way side edge from lane to) }
+    ensures { pieces_text result ≡ way_text (broken_way side edge from lane to) }
 {
     let (near, before) = (from.x + 26, to.x - 26);
     [
-        Text("<path class='"),
-        Text(class),
-        Text(" "),
-        Text(weight.class()),
-        Text("' d='"),
         At("M", from.x, from.y),
         At("L", near, leaving(side, from.y)),
         At("L", edge, passing(side, from.y)),
@@ -81,31 +53,37 @@ fn broken_arrow(
         At("L", before, passing(side, lane)),
         At("L", before, coming(side, to.y)),
         At("L", to.x, to.y),
-        Text("'/>\n"),
     ]
 }
 
-/// An arrow straight down or up.
-#[tactic(auto, unfolding(crate::specs::Arrows::arrow_text))]
-fn upright_arrow(
-    class: &'static str,
-    weight: Weight,
-    x: usize,
-    from: usize,
-    to: usize,
-) -> [Piece<'static>; 8]
-    ensures { pieces_text result ≡ arrow_text class.now weight (upright x from to) }
+/// Straight down or up.
+fn upright(x: usize, from: usize, to: usize) -> [Piece<'static>; 2]
+    ensures { pieces_text result ≡ way_text (upright x from to) }
 {
-    [
-        Text("<path class='"),
-        Text(class),
-        Text(" "),
-        Text(weight.class()),
-        Text("' d='"),
-        At("M", x, from),
-        At("L", x, to),
-        Text("'/>\n"),
-    ]
+    [At("M", x, from), At("L", x, to)]
+}
+
+/// Adds an arrow of that class along a way.
+fn push_way(
+    text: &mut String,
+    class: &str,
+    weight: Weight,
+    way: &[Piece<'static>],
+) -> Result<(), AllocError>
+    ensures { Pushes result text.old text.new (arrow_text class.now weight (pieces_text way.now)) }
+{
+    push_each(
+        text,
+        &[
+            Text("<path class='"),
+            Text(class),
+            Text(" "),
+            Text(weight.class()),
+            Text("' d='"),
+        ],
+    )?;
+    push_each(text, way)?;
+    push_each(text, &[Text("'/>\n")])
 }
 
 /// Adds the arrow of a copy to an event at a position, from where its message was sent.
@@ -114,7 +92,7 @@ fn push_copy(
     grid: Grid,
     events: &[Event],
     places: &Places,
-    class: &'static str,
+    class: &str,
     weight: Weight,
     name: MsgName,
     position: usize,
@@ -135,14 +113,11 @@ fn push_copy(
     let side = side_of(s, p);
     let row = row_of(grid, position);
     if row_of(grid, i) == row {
-        push_each(text, &whole_arrow(class, weight, side, from, to))
+        push_way(text, class, weight, &whole_way(side, from, to))
     } else {
         let lane = lane_y(grid, row, s);
-        let edge = end_x(grid);
-        push_each(
-            text,
-            &broken_arrow(class, weight, side, edge, from, lane, to),
-        )
+        let way = broken_way(side, end_x(grid), from, lane, to);
+        push_way(text, class, weight, &way)
     }
 }
 
@@ -198,13 +173,13 @@ pub(crate) fn push_arrow(
             }
             Kind::Read(register) => {
                 let from = register_spot(grid, position, register);
-                let pieces = upright_arrow("read", weight, from.x, from.y, lane_y(grid, row, p));
-                push_each(text, &pieces)
+                let way = upright(from.x, from.y, lane_y(grid, row, p));
+                push_way(text, "read", weight, &way)
             }
             Kind::Write(register) => {
                 let to = register_spot(grid, position, register);
-                let pieces = upright_arrow("write", weight, to.x, lane_y(grid, row, p), to.y);
-                push_each(text, &pieces)
+                let way = upright(to.x, lane_y(grid, row, p), to.y);
+                push_way(text, "write", weight, &way)
             }
             Kind::Send(m) => {
                 let name = MsgName { s: p, m };

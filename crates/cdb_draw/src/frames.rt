@@ -1,8 +1,7 @@
 //! The frames of a script: the picture of the run after each of its commands that changed it, for slides.
 
-ghost use Rattle.std.specs.Prelude.{◌≡◌, ◌+◌, ◌<◌, ◌≤◌, [], ◌∷◌, ◌++◌, Some, length, slice_get};
+ghost use Rattle.std.specs.Prelude.{◌≡◌, ◌+◌, ◌<◌, ◌≤◌, [], ◌∷◌, ◌++◌, Some, length, slice_get, All};
 ghost use Rattle.std.specs.Prelude.{take, IfErr, IfOk, OnOk};
-ghost use Rattle.std.specs.List.{All};
 ghost use Rattle.cdb_agreement.specs.Algorithms.{rules};
 ghost use Rattle.cdb_commands.specs.ReplyView.{reply_view};
 ghost use Rattle.cdb_control.specs.Journal.{extended, reply_in};

@@ -19,10 +19,10 @@ use cdb_rules::Runs;
 use std::alloc::AllocError;
 
 /// The value that a register of a run holds, where the run has it.
-fn held<T: Runs>(run: &T, register: Reg) -> Piece<'static>
-    ensures { piece_text result ≡ held_text (cell_in T.rules (T.run run.now) register) }
+fn held<T: Runs>(run: &T, register: &Reg) -> Piece<'static>
+    ensures { piece_text result ≡ held_text (cell_in T.rules (T.run run.now) register.now) }
 {
-    match run.cell(register) {
+    match run.cell(*register) {
         Some(cell) => value(cell.val),
         None => Text(""),
     }
@@ -73,8 +73,7 @@ pub(crate) fn push_written<T: Runs>(
             kind: Kind::Write(register),
             ..
         } => {
-            let again = register;
-            let value = held(run, again);
+            let value = held(run, &register);
             push_each(text, &holding(grid, weight, position, register, value))
         }
         _ => Ok(()),

@@ -1,10 +1,9 @@
 //! The marks of a picture.
 
 ghost use Rattle.std.specs.Prelude.{◌≡◌, ◌≤◌, [], option_copied, string_bytes};
-ghost use Rattle.cdb_draw.specs.EventMarks.{begun, below_place, below_text, carried_text, decided_text};
-ghost use Rattle.cdb_draw.specs.EventMarks.{deed_texts, first_row, kind_texts};
-ghost use Rattle.cdb_draw.specs.EventMarks.{lane_of, mark_text, marked_text, note_text};
-ghost use Rattle.cdb_draw.specs.EventMarks.{second_row, shape_of, third_row, tick_text, value_of};
+ghost use Rattle.cdb_draw.specs.EventMarks.{begun, below_place, below_text, carried_text, decided_text, deed_texts};
+ghost use Rattle.cdb_draw.specs.EventMarks.{kind_texts, lane_of, mark_text, marked_text, note_text, rows, tick_text};
+ghost use Rattle.cdb_draw.specs.EventMarks.{value_of};
 ghost use Rattle.cdb_draw.specs.Layout.{IsGrid};
 ghost use Rattle.cdb_explain.specs.Explanations.{whole_text};
 ghost use Rattle.cdb_explain.specs.declared.line.Causes.TheVariants.{Shown};
@@ -63,10 +62,10 @@ fn kind_texts(p: Proc, kind: Kind) -> (&'static str, Piece<'static>)
 
 /// The shape of the mark of an event, and the three rows above it.
 fn rows(event: &Event) -> (&'static str, Piece<'static>, Piece<'static>, Piece<'static>)
-    ensures shape { result.0.now ≡ shape_of event.now }
-    ensures first { piece_text result.1 ≡ first_row event.now }
-    ensures second { piece_text result.2 ≡ second_row event.now }
-    ensures third { piece_text result.3 ≡ third_row event.now }
+    ensures shape { result.0.now ≡ (rows event.now).0 }
+    ensures first { piece_text result.1 ≡ (rows event.now).1 }
+    ensures second { piece_text result.2 ≡ (rows event.now).2 }
+    ensures third { piece_text result.3 ≡ (rows event.now).3 }
 {
     match *event {
         Event::Step { p, k, kind } => {
@@ -155,9 +154,9 @@ fn below<T: Runs>(run: &T, deed: &Deed, event: &Event, decided: Option<Val>) -> 
 
 /// The ring of a decision with its word, and how what stands below the mark looks, and where: a decision beside the
 /// arrow of a read or a write.
-fn ring(event: &Event, decided: Option<Val>) -> (&'static str, &'static str)
-    ensures ring { result.0.now ≡ decided_text decided }
-    ensures place { result.1.now ≡ below_place decided event.now }
+fn ring(event: &Event, decided: &Option<Val>) -> (&'static str, &'static str)
+    ensures ring { result.0.now ≡ decided_text decided.now }
+    ensures place { result.1.now ≡ below_place decided.now event.now }
 {
     let ring = "<use href='#decided'/><text class='decision' y='-48'>decides</text>";
     match (decided, *event) {
@@ -230,9 +229,8 @@ fn mark<'a, T: Runs>(
         whole.entry.now }
 {
     let decided = decision_by(run, event);
-    let again = decided;
+    let (ring, place) = ring(event, &decided);
     let below = below(run, deed, event, decided);
-    let (ring, place) = ring(event, again);
     let (tick, note) = tick(begun(deed), deed, event);
     let (shape, first, second, third) = rows(event);
     let at = spot(grid, position, lane_of(event));

@@ -1,8 +1,7 @@
 use Rattle.std.proofs.Common.{◌≡◌, ◌∙◌, ◌+◌, ◌++◌, List, ap, append-nil, length, sym, arith}
 use Rattle.std.proofs.lemmas.List.Elements.{All-push, All-same}
 use Rattle.cdb_agreement.specs.Algorithms.{rules}
-use Rattle.cdb_draw.specs.Frames.{events_at, IsFrameOf}
-use Rattle.cdb_draw.specs.declared.frames.Frame.{Frame}
+use Rattle.cdb_draw.specs.Frames.{events_at, IsFrameOf, Frame}
 use Rattle.cdb_draw.proofs.FramesFound.{events_next, frame_is, frame_next, no_frame}
 use Rattle.cdb_draw.proofs.frames.add_next.Goals as goal
 
