@@ -1,12 +1,10 @@
 -- A page keeps up with its journal as that grows.
-use Rattle.std.proofs.Common.{◌≡◌, ◌∙◌, ◌⊎◌, inl, inr, ℕ, zero, suc, ◌<◌, ◌≤◌, List, [], ◌∷◌, ◌++◌, length, take, drop, Option}
-use Rattle.std.proofs.Common.{None, Some, Result, Ok, Err, refl, sym, ap, arith, append_assoc, append-nil, length-append}
-use Rattle.std.specs.Prelude.{All, IfErr, IfOk, IfSome, option_map}
+use Rattle.std.proofs.Common.{◌≡◌, ◌∙◌, ◌⊎◌, inl, inr, ℕ, zero, suc, ◌<◌, ◌≤◌, List, [], ◌∷◌, ◌++◌, length, take, drop, Option, length-take-le, All, IfErr}
+use Rattle.std.proofs.Common.{None, Some, Result, Ok, Err, refl, sym, ap, arith, append_assoc, append-nil, length-append, IfOk, IfSome, option_map}
 use Rattle.std.specs.Io.{WritesAtMost}
 use Rattle.std.specs.Result.{result_unwrap_or}
 use Rattle.std.proofs.KnownBytes.{Appends-nil, Appends-trans}
 use Rattle.std.proofs.Math.Seq.{drop-append_seam, take-append_seam}
-use Rattle.std.proofs.lemmas.List.{length-take-le}
 use Rattle.std.proofs.lemmas.List.Elements.{All-append, All-cons, All-nil, All-weaker}
 use Rattle.cdb_explain.specs.declared.fault.AnswerFault.{AnswerFault}
 use Rattle.cdb_streams.specs.Streams.{Stream}
@@ -91,55 +89,27 @@ keeps_up_still it taken failures journal up same has = record {
 }
 
 -- what it took has the page that was written
-shown : (it : Live) (more : List ℕ) (failures : ℕ) (journal : Option Stream) (versions : Versions) (outcome : Result (Unit {0}) AnswerFault)
-    → KeepsUp it → HasFileTaken it.journal_before journal (it.taken ++ more) → 0 < length (it.taken ++ more)
-    → ShowsLines it.json (it.taken ++ more) it.versions versions outcome
-    → KeepsUp (record it { taken = it.taken ++ more; failures = failures; journal = journal; versions = versions; outcome = outcome })
-shown it more failures journal versions (Ok done) up has some (ends, (page, is, versions_are)) =
-    let all = it.taken ++ more in
-    record {
-      journal = has;
-      each =
-          rw versions_are
-          (each_too it.json it.from all page (it.versions).texts (inr (all, (ends, ([], sym (append-nil all))), is))
-          (each_still it.json it.from it.taken more (it.versions).texts up.each));
-      last = rw (versions_are, so_far it.from all some) (last_is it.json all page (it.versions).texts is);
-      fault = tt;
-    }
-shown it more failures journal versions (Err why) up has some (texts_are, because) =
-    let all = it.taken ++ more in
-    record {
-      journal = has;
-      each = rw texts_are (each_still it.json it.from it.taken more (it.versions).texts up.each);
-      last = tt;
-      fault = rw (so_far it.from all some) because;
-    }
-
 pub keeps_up_on : (it : Live) (more taken : List ℕ) (failures : ℕ) (journal : Option Stream) (versions : Versions) (outcome : Result (Unit {0}) AnswerFault)
     → KeepsUp it → taken ≡ it.taken ++ more → HasFileTaken it.journal journal more → 0 < length taken
     → ShowsLines it.json taken it.versions versions outcome
     → KeepsUp (record it { taken = taken; failures = failures; journal = journal; versions = versions; outcome = outcome })
-keeps_up_on it more taken failures journal versions outcome up same has some shows =
-    rw same (shown it more failures journal versions outcome up (file_took_more it.journal_before it.journal journal it.taken more up.journal has)
-    (rw same at some) (rw same at shows))
+keeps_up_on it more taken failures journal versions (Ok done) up same has some (ends, (page, is, versions_are)) = record {
+  journal = rw same (file_took_more it.journal_before it.journal journal it.taken more up.journal has);
+  each =
+      rw versions_are
+      (each_too it.json it.from taken page (it.versions).texts (inr (taken, (ends, ([], sym (append-nil taken))), is))
+      (rw same (each_still it.json it.from it.taken more (it.versions).texts up.each)));
+  last = rw (versions_are, so_far it.from taken some) (last_is it.json taken page (it.versions).texts is);
+  fault = tt;
+}
+keeps_up_on it more taken failures journal versions (Err why) up same has some (texts_are, because) = record {
+  journal = rw same (file_took_more it.journal_before it.journal journal it.taken more up.journal has);
+  each = rw (texts_are, same) (each_still it.json it.from it.taken more (it.versions).texts up.each);
+  last = tt;
+  fault = rw (so_far it.from taken some) because;
+}
 
 -- at the beginning
-first_each : (json from : List ℕ) (old new : Versions) (outcome : Result (Unit {0}) AnswerFault)
-    → IfSome old.texts (λ texts. texts ≡ []) → Shows json from old new outcome → IfSome new.texts (All (IsPageSoFar json from []))
-first_each json from old new (Ok done) empty (page, is, new_is) =
-    rw new_is (each_too json from [] page old.texts (inl is) (none_yet json from old.texts empty))
-first_each json from old new (Err why) empty (texts_are, because) = rw texts_are (none_yet json from old.texts empty)
-
-first_last : (json from : List ℕ) (old new : Versions) (outcome : Result (Unit {0}) AnswerFault) → Shows json from old new outcome
-    → IfOk outcome (λ _. IfSome new.texts (EndsWithPage json from))
-first_last json from old new (Ok done) (page, is, new_is) = rw new_is (last_is json from page old.texts is)
-first_last json from old new (Err why) shows = tt
-
-first_fault : (json from : List ℕ) (old new : Versions) (outcome : Result (Unit {0}) AnswerFault) → Shows json from old new outcome
-    → IfErr outcome (λ fault. IsFaultOfShow json from new fault ⊎ IsToCome [] fault)
-first_fault json from old new (Ok done) shows = tt
-first_fault json from old new (Err why) shows = inl shows.1
-
 pub keeps_up_first : (json from taken : List ℕ) (failures : ℕ) (journal : Option Stream) (old new : Versions) (outcome : Result (Unit {0}) AnswerFault)
     → taken ≡ [] → IfSome old.texts (λ texts. texts ≡ []) → Shows json from old new outcome
     → KeepsUp (record {
@@ -152,14 +122,16 @@ pub keeps_up_first : (json from taken : List ℕ) (failures : ℕ) (journal : Op
       versions = new;
       outcome = outcome;
     })
-keeps_up_first json from taken failures journal old new outcome none empty shows =
+keeps_up_first json from taken failures journal old new (Ok done) none empty (page, is, new_is) =
     rw none
     (record {
       journal = file_took_none journal;
-      each = first_each json from old new outcome empty shows;
-      last = first_last json from old new outcome shows;
-      fault = first_fault json from old new outcome shows;
+      each = rw new_is (each_too json from [] page old.texts (inl is) (none_yet json from old.texts empty));
+      last = rw new_is (last_is json from page old.texts is);
+      fault = tt;
     })
+keeps_up_first json from taken failures journal old new (Err why) none empty (texts_are, because) =
+    rw none (record { journal = file_took_none journal; each = rw texts_are (none_yet json from old.texts empty); last = tt; fault = inl because })
 
 -- ---- what it was made with
 

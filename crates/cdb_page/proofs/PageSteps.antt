@@ -12,11 +12,9 @@ use Rattle.cdb_causal.specs.Past.{HasLedTo}
 use Rattle.cdb_causal.specs.Rollback.{IsParted, IsRolledBack, done, kept, gone}
 use Rattle.cdb_process.proofs.Members.{IsIn, contained_in, in_contained}
 use Rattle.cdb_rules.specs.RunView.{RunView}
-use Rattle.cdb_page.specs.Entries.{AreEntries, IsEntry}
-use Rattle.cdb_page.specs.Followed.{IsReached, itself, its_causes, its_dependents}
-use Rattle.cdb_page.specs.Followed.{onward as further}
+use Rattle.cdb_page.specs.Entries.{AreEntries, IsEntry, Entry}
+use Rattle.cdb_page.specs.Followed.{IsReached, itself, its_causes, its_dependents, onward as further}
 use Rattle.cdb_page.specs.Listed.{AreAllIn}
-use Rattle.cdb_page.specs.declared.entries.Entry.{Entry}
 
 -- ---- what is listed of a set
 
@@ -61,23 +59,20 @@ module _ (run : RunView) (entries : List Entry) (are : AreEntries run entries) w
         | inr (past, none) ↦ absurd (omega (arith, slice_get_within history i event stands, number, past))
       ]
 
-  cause_within : (i j : ℕ) → IsDirectCause depends history i j → (1 ≤ i) × (i ≤ length history)
-  cause_within i j cause = let link = cause.link in grind (arith, common_steps, gets)
-
-  effect_within : (i j : ℕ) → IsDirectCause depends history i j → (1 ≤ j) × (j ≤ length history)
-  effect_within i j cause = let link = cause.link in grind (arith, common_steps, gets)
+  both_within : (i j : ℕ) → IsDirectCause depends history i j → (1 ≤ i) × (i ≤ length history) × (1 ≤ j) × (j ≤ length history)
+  both_within i j cause = let link = cause.link in grind (arith, common_steps, gets)
 
   -- an entry lists the direct causes, and the events of which its own is one
   module _ (at : ℕ) (entry : Entry) (is : nth entries at ≡ Some entry) (other : ℕ) where
     its_cause : Contains (its_causes entry) other ↔ IsDirectCause depends history other at
     its_cause =
         let all = listed (λ it. IsDirectCause depends history it at) history _ (entry_of at entry is).causes other in
-        (λ here. (all.0 here).0, λ cause. let (low, high) = cause_within other at cause in all.1 (cause, low, high))
+        (λ here. (all.0 here).0, λ cause. let w = both_within other at cause in all.1 (cause, w.0, w.1))
 
     its_dependent : Contains (its_dependents entry) other ↔ IsDirectCause depends history at other
     its_dependent =
         let all = listed (λ it. IsDirectCause depends history at it) history _ (entry_of at entry is).dependents other in
-        (λ here. (all.0 here).0, λ cause. let (low, high) = effect_within at other cause in all.1 (cause, low, high))
+        (λ here. (all.0 here).0, λ cause. let w = both_within at other cause in all.1 (cause, w.2, w.3))
 
   -- ---- the past
 

@@ -20,9 +20,8 @@ use Rattle.cdb_trail.specs.declared.flow.Spot.{Spot}
 use Rattle.cdb_trail.specs.declared.flow.Spot.TheVariants.{Slot as slot}
 use Rattle.cdb_trail.specs.declared.origins.Origin.{Origin}
 use Rattle.cdb_trail.specs.declared.origins.Origin.TheVariants.{Step, Input}
-use Rattle.cdb_page.specs.Entries.{AreEntries}
+use Rattle.cdb_page.specs.Entries.{AreEntries, Entry}
 use Rattle.cdb_page.specs.Followed.{IsTraced, IsTrailOfRunBy, IsTrailOfValueBy, begins, goes_on}
-use Rattle.cdb_page.specs.declared.entries.Entry.{Entry}
 use Rattle.cdb_page.proofs.PageSteps.{entry_of, has_entry}
 
 -- ---- a step takes its value from one origin

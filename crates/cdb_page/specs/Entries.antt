@@ -5,7 +5,7 @@ use Rattle.cdb_causal.specs.Dependence.{depends}
 use Rattle.cdb_rules.specs.RunView.{RunView}
 use Rattle.cdb_trail.specs.Origins.{IsOriginIn}
 use Rattle.cdb_page.specs.Listed.{AreAllIn, IsNeededBy}
-use Rattle.cdb_page.specs.declared.entries.Entry.{Entry}
+pub use Rattle.cdb_page.specs.declared.entries.Entry.{Entry}
 
 -- the entry of the event at a position: its direct causes, those of which it is one, the first event that needs it, and
 -- from where its value came

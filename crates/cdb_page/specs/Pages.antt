@@ -8,8 +8,7 @@ use Rattle.cdb_base.specs.Limits.{COLUMNS}
 use Rattle.cdb_rules.specs.RunView.{RunView}
 use Rattle.cdb_trail.specs.declared.origins.Origin.{Origin}
 use Rattle.cdb_trail.specs.declared.origins.Origin.TheVariants.{Step, Input}
-use Rattle.cdb_page.specs.Entries.{AreEntries}
-use Rattle.cdb_page.specs.declared.entries.Entry.{Entry}
+use Rattle.cdb_page.specs.Entries.{AreEntries, Entry}
 use Rattle.cdb_page.specs.declared.parts.Refresh.{Refresh}
 use Rattle.cdb_page.specs.declared.parts.Refresh.TheVariants.{Never, EachTwoSeconds}
 use Rattle.cdb_page.specs.declared.parts.TheConstants.{HEAD, REFRESH, LOOKS, CONTROLS, SCRIPT}

@@ -6,7 +6,7 @@ ghost use Rattle.cdb_page.specs.Entries.{AreEntries, IsEntry};
 ghost use Rattle.cdb_rules.specs.ByRules.{IsInOrder};
 ghost use Rattle.cdb_trail.specs.Origins.{IsOriginIn};
 
-use crate::links::{direct_causes, direct_dependents, needed_by};
+use crate::links::{direct_links, needed_by};
 use cdb_base::NoMemory;
 use cdb_rules::Trace;
 use cdb_trail::{Origin, origins_of};
@@ -35,9 +35,10 @@ fn entry_at(
     ensures { IfOk result (IsEntry run.now at) }
 {
     let events = run.events();
+    let (causes, dependents) = direct_links(alloc, events, at)?;
     Ok(Entry {
-        causes: direct_causes(alloc, events, at)?,
-        dependents: direct_dependents(alloc, events, at)?,
+        causes,
+        dependents,
         needed: needed_by(events, at),
         origin,
     })

@@ -9,42 +9,30 @@ use cdb_base::{Event, NoMemory};
 use cdb_causal::{is_direct_cause, is_linked};
 use std::alloc::Global;
 
-/// The direct causes of the event at a position.
-pub(crate) fn direct_causes(
+/// The direct causes of the event at a position, and those of which it is one.
+pub(crate) fn direct_links(
     alloc: Global,
     events: &[Event],
     at: usize,
-) -> Result<Vec<usize>, NoMemory>
+) -> Result<(Vec<usize>, Vec<usize>), NoMemory>
+    requires from_one { 1 ≤ at }
     requires to_len { at ≤ length events.now }
-    ensures { IfOk result (λ found. AreAllIn events.now
-        (λ other. IsDirectCause depends_of events.now other at) found.items) }
+    ensures causes { IfOk result (λ found. AreAllIn events.now
+        (λ other. IsDirectCause depends_of events.now other at) found.0.items) }
+    ensures dependents { IfOk result (λ found. AreAllIn events.now
+        (λ other. IsDirectCause depends_of events.now at other) found.1.items) }
 {
-    let mut found = Vec::new(alloc);
+    let mut causes = Vec::new(alloc);
+    let mut dependents = Vec::new(alloc);
     for i in 0..events.len() {
         if is_direct_cause(events, i + 1, at) {
-            found.push(i + 1)?;
+            causes.push(i + 1)?;
         }
-    }
-    Ok(found)
-}
-
-/// Those of which it is one.
-pub(crate) fn direct_dependents(
-    alloc: Global,
-    events: &[Event],
-    at: usize,
-) -> Result<Vec<usize>, NoMemory>
-    requires from_one { 1 ≤ at }
-    ensures { IfOk result (λ found. AreAllIn events.now
-        (λ other. IsDirectCause depends_of events.now at other) found.items) }
-{
-    let mut found = Vec::new(alloc);
-    for i in 0..events.len() {
         if is_direct_cause(events, at, i + 1) {
-            found.push(i + 1)?;
+            dependents.push(i + 1)?;
         }
     }
-    Ok(found)
+    Ok((causes, dependents))
 }
 
 /// The first event that depends on the one at a position, if one does.

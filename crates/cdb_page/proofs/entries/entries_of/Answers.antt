@@ -1,7 +1,6 @@
 use Rattle.std.proofs.Common.{◌≡◌, ◌∙◌, ℕ, suc, ◌+◌, List, Option, Some, slice_get, sym, ap, subst, arith, rules}
 use Rattle.std.proofs.lemmas.Option.{slice_get-get_or}
-use Rattle.cdb_page.specs.Entries.{IsEntry}
-use Rattle.cdb_page.specs.declared.entries.Entry.{Entry}
+use Rattle.cdb_page.specs.Entries.{IsEntry, Entry}
 use Rattle.cdb_page.proofs.ListItems.{one_more}
 use Rattle.cdb_trail.specs.Origins.{IsOriginIn}
 use Rattle.cdb_trail.specs.declared.origins.Origin.{Origin}

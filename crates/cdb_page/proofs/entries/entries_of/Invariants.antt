@@ -1,6 +1,5 @@
 use Rattle.std.proofs.Common.{◌≡◌, ℕ, suc, length, Some, slice_get}
-use Rattle.cdb_page.specs.Entries.{IsEntry}
-use Rattle.cdb_page.specs.declared.entries.Entry.{Entry}
+use Rattle.cdb_page.specs.Entries.{IsEntry, Entry}
 use Rattle.cdb_page.proofs.entries.entries_of.Given as goal
 
 abbrev pub invariant-loop-i : goal.invariant-loop-i
