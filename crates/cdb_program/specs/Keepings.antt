@@ -28,16 +28,13 @@ HasHadNone versions = IfSome versions.texts (λ texts. texts ≡ [])
 
 -- ---- what a journal is kept in
 
+-- what is known of it
 pub data Keeping : Type 0 where
   InFile : (file : Stream) → Keeping
   OnPage : (page : Live) → Keeping
 
-abbrev pub keeping_of : {J P : Type 0} → (J → Stream) → Kind J P → Keeping
-keeping_of stream (kind.File file) = InFile (stream file)
-keeping_of stream (kind.Page page) = OnPage page
-
--- As a writer a file holds a 2 and then its own bytes, and a page what it was made with, of which the first is no 2. So
--- what holds the same at its beginning is of the same kind.
+-- As a writer a file holds a 2 and then its own bytes, and a page what it was made with, of which the first is 0 or 1.
+-- So what holds the same at its beginning is of the same kind.
 abbrev pub stream_in : Keeping → Stream
 stream_in (InFile file) = record file { bytes = prepend_known (2 ∷ []) file.bytes }
 stream_in (OnPage page) = stream_of page
@@ -48,7 +45,8 @@ abbrev pub IsNewPage : Option Text → List ℕ → List ℕ → Live → Type 0
 IsNewPage journal json from it =
     IsNewFile journal it.journal_before × (it.json ≡ json) × (it.from ≡ from) × (it.taken ≡ [])
 
--- what the new journal of a run on this setup is kept in at first, by what was named: nothing, a file, or a page
+-- what the new journal of a run on this setup is kept in at first, by whether a page and a file of the journal were
+-- named: nothing, a file, or a page
 abbrev pub IsKeeping : Option Text → Option Text → List ℕ → List ℕ → Option Keeping → Type 0
 IsKeeping None None json from None = Unit {0}
 IsKeeping None (Some journal) json from (Some (InFile file)) = IsEmpty file
@@ -58,10 +56,22 @@ IsKeeping page journal json from keeping = ⊥
 abbrev pub IsNewKeeping : Named → List ℕ → List ℕ → Option Keeping → Type 0
 IsNewKeeping it json from keeping = IsKeeping it.page it.journal json from keeping
 
--- The page later: it has kept up with the journal. So its file of the journal, where it has one,
--- holds all that it took.
+-- The page later: it has kept up with the journal. So its file of the journal, where it has one, holds all that it took.
 abbrev pub IsKeptPage : Live → Live → Type 0
 IsKeptPage first it = IsMadeWith first.journal_before first.json first.from it × KeepsUp it
+
+-- what a journal was kept in, first and at the end, and how the last writing of the page ended, where it was a page
+abbrev pub HasShown : Option Keeping → Option (Kept Keeping) → Result (Unit {0}) AnswerFault → Type 0
+HasShown (Some (OnPage first)) (Some kept) shown =
+    (it : Live) × (kept.file ≡ OnPage it) × IsKeptPage first it × (shown ≡ it.outcome)
+HasShown (Some (OnPage first)) None shown = ⊥
+HasShown first kept shown = shown ≡ Ok tt
+
+-- ---- what the code keeps for itself
+
+abbrev pub keeping_of : {J P : Type 0} → (J → Stream) → Kind J P → Keeping
+keeping_of stream (kind.File file) = InFile (stream file)
+keeping_of stream (kind.Page page) = OnPage page
 
 -- this is how the last writing of the page ended, where it is one, and it has kept up
 abbrev pub IsEndOf : Keeping → Result (Unit {0}) AnswerFault → Type 0
@@ -72,10 +82,3 @@ IsEndOf (OnPage it) shown = KeepsUp it × (shown ≡ it.outcome)
 abbrev pub IsShown : Option Text → Option (Kept Keeping) → Result (Unit {0}) AnswerFault → Type 0
 IsShown (Some name) (Some kept) shown = IsEndOf kept.file shown
 IsShown page kept shown = shown ≡ Ok tt
-
--- what a journal was kept in, first and at the end, and how the last writing of the page ended, where it was a page
-abbrev pub HasShown : Option Keeping → Option (Kept Keeping) → Result (Unit {0}) AnswerFault → Type 0
-HasShown (Some (OnPage first)) (Some kept) shown =
-    (it : Live) × (kept.file ≡ OnPage it) × IsKeptPage first it × (shown ≡ it.outcome)
-HasShown (Some (OnPage first)) None shown = ⊥
-HasShown first kept shown = shown ≡ Ok tt
