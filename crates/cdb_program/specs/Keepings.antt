@@ -56,7 +56,8 @@ IsKeeping page journal json from keeping = ⊥
 abbrev pub IsNewKeeping : Named → List ℕ → List ℕ → Option Keeping → Type 0
 IsNewKeeping it json from keeping = IsKeeping it.page it.journal json from keeping
 
--- The page later: it has kept up with the journal. So its file of the journal, where it has one, holds all that it took.
+-- The page later: it has kept up with the journal. So its file of the journal, where it has one, holds all that it
+-- took.
 abbrev pub IsKeptPage : Live → Live → Type 0
 IsKeptPage first it = IsMadeWith first.journal_before first.json first.from it × KeepsUp it
 
